@@ -1,0 +1,2 @@
+-- Laws of the model machine, in reading order.
+pub mod Starred

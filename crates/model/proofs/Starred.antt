@@ -1,0 +1,33 @@
+-- The starred examples of document 01 hold of the definitions.
+use mathlib.Core.Path.{_≡_, refl}
+use mathlib.Core.Bool.{true, false}
+use Prim.Native.Nat.{ℕ, _*_}
+use mathlib.Core.List.{List, [], _∷_, map, _++_}
+use Rattle.wire.specs.Numbers.{le, get, put}
+use Rattle.wire.specs.Parts.{zeros, padded}
+use Rattle.wire.specs.Layout.{form}
+use Rattle.model.specs.Registers.{logPage, smartLog, requestOf, registersBytes, replyBytes}
+use Rattle.model.specs.Key.{keyChecks, actionOf, judgeKey, repeated}
+use Rattle.model.specs.Temperature.{newMaximum, sampled}
+use Rattle.model.specs.Fill.{interrupt, workCount}
+use Rattle.model.specs.Decide.{carryOut, decideKey, decide}
+use Rattle.model.specs.Owner.{sample}
+use Rattle.model.specs.Image.{powerOn, restored}
+use Rattle.model.specs.Machine.{Machine}
+use Rattle.model.specs.Step.{Step, take, serve, give, Seen, Outcome, step, trace, served, serveDecided, poweredOn, answered, answeredMailbox}
+use Rattle.model.specs.Examples.{Example, evaluate, starred, keyMailbox, fillKey}
+
+-- THEOREM: every starred example comes out as 01 says.
+pub starred-hold : map (λ (e : Example × List ℕ). evaluate (e .0)) starred ≡ map (λ (e : Example × List ℕ). e .1) starred
+unfolding evaluate le get put logPage smartLog requestOf keyChecks actionOf judgeKey repeated newMaximum sampled interrupt workCount carryOut decideKey decide sample powerOn
+starred-hold = refl
+
+-- "Start 64, Count 0: 0002h", from the mailbox through take, serve and give to the mailbox of the reply
+pub end-to-end : map (λ (o : Outcome Machine). o .seen)
+    (trace step (take 0 (keyMailbox (fillKey 64 0)) ∷ serve (record { port = 0 }) ∷ give 0 (zeros 528) ∷ []) (poweredOn (zeros (512 * 64)) [] 0))
+    ≡ answeredMailbox 0 (keyMailbox (fillKey 64 0))
+    ∷ answered 0
+    ∷ answeredMailbox 0 (form 528 ((2, 1, 0x02) ∷ (12, 1, 0x51) ∷ (13, 1, 0x04) ∷ []))
+    ∷ []
+unfolding le get put padded logPage smartLog requestOf registersBytes replyBytes keyChecks actionOf judgeKey interrupt carryOut decideKey decide powerOn restored step served serveDecided poweredOn
+end-to-end = refl

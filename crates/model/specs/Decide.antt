@@ -1,0 +1,155 @@
+-- What a request does: the new device, the reply's registers, and an effect. Nothing here sees the disk.
+use mathlib.Core.Bool.{Bool, true, false, not}
+use Prim.Native.Nat.{ℕ, zero, suc}
+use mathlib.Core.List.{List, [], _∷_}
+use lib.ListN.{getD, set}
+use lib.Dec.{eqb, ltb}
+use Rattle.wire.specs.Choice.{if_then_else_, bit, Check, firstFailed, ifPassed}
+use Rattle.model.specs.Device.{Transfer, none, table, fillData, Feature, Settings, Device}
+use Rattle.model.specs.Update.{withSettings, withThermal, withCode, withKey, withPending}
+use Rattle.model.specs.Registers.{Direction, read, write, Request, statusRead, keySector, dataTransfer, sectorAccess, other, dataOf, requestOf, Registers, good, refused, refusedWith}
+use Rattle.model.specs.Key.{word, FeatureName, writeCache, reordering, logInterval, Action, fillPattern, fillSector, setTimer, returnTimer, setFeature, returnState, returnOption, sendTable, Verdict, accepted, rejected, judgeKey}
+use Rattle.model.specs.Temperature.{historyEmptied}
+use Rattle.model.specs.Fill.{interrupt}
+
+-- What is still to be done with the disk, or sent. A write has its LBA and the sector, a fill its first sector, end and sector.
+pub data Effect : Type 0 where
+  nothing : Effect
+  sendStatus : Effect
+  sendTemperatures : Effect
+  readLba : ℕ → Effect
+  writeLba : ℕ → List ℕ → Effect
+  beginFill : ℕ → ℕ → List ℕ → Effect
+
+pub record Decision : Type 0 where
+  pub device : Device
+  pub registers : Registers
+  pub effect : Effect
+
+abbrev pub decision : Device → Registers → Effect → Decision
+decision d r e = record { device = d; registers = r; effect = e }
+
+-- ---- status
+
+-- "A refused status read under the lock answers 0012h and stores nothing."
+abbrev pub decideStatus : Device → Decision
+decideStatus d = if d .locked then decision d (refusedWith 0x0012) nothing else decision d (good 0 0) sendStatus
+
+-- ---- key sector
+
+abbrev pub timer : Direction → Settings → ℕ
+timer read s = s .readTimer
+timer write s = s .writeTimer
+
+abbrev pub withTimer : Direction → ℕ → Settings → Settings
+withTimer read n s =
+    record { readTimer = n; writeTimer = s .writeTimer; writeCache = s .writeCache; reordering = s .reordering; logInterval = s .logInterval }
+withTimer write n s =
+    record { readTimer = s .readTimer; writeTimer = n; writeCache = s .writeCache; reordering = s .reordering; logInterval = s .logInterval }
+
+abbrev pub feature : FeatureName → Settings → Feature
+feature writeCache s = s .writeCache
+feature reordering s = s .reordering
+feature logInterval s = s .logInterval
+
+abbrev pub withFeature : FeatureName → Feature → Settings → Settings
+withFeature writeCache f s =
+    record { readTimer = s .readTimer; writeTimer = s .writeTimer; writeCache = f; reordering = s .reordering; logInterval = s .logInterval }
+withFeature reordering f s =
+    record { readTimer = s .readTimer; writeTimer = s .writeTimer; writeCache = s .writeCache; reordering = f; logInterval = s .logInterval }
+withFeature logInterval f s =
+    record { readTimer = s .readTimer; writeTimer = s .writeTimer; writeCache = s .writeCache; reordering = s .reordering; logInterval = f }
+
+-- "Any set of feature 3 empties the temperature history."
+abbrev pub afterFeature : FeatureName → Device → Device
+afterFeature writeCache d = d
+afterFeature reordering d = d
+afterFeature logInterval d = withThermal (historyEmptied (d .thermal)) d
+
+-- An accepted key. "The value asked for by timers 2 and feature 2 or 3 (the mark, 0 or 1) stands in Sector Count (low) and
+-- LBA Low (high); other accepted keys have 0 there. LBA Mid is 1 if a sector is owed (fill function 2, table), else 0."
+-- "Pattern fill starts at once".
+unfoldable pub carryOut : Action → ℕ → Device → Decision
+carryOut (fillPattern first end sector) p d = decision d (good 0 0) (beginFill first end sector)
+carryOut (fillSector first end) p d = decision (withPending (set (d .command .pending) p (fillData first end)) d) (good 0 1) nothing
+carryOut (setTimer t n) p d = decision (withSettings (withTimer t n (d .settings)) d) (good 0 0) nothing
+carryOut (returnTimer t) p d = decision d (good (timer t (d .settings)) 0) nothing
+carryOut (setFeature f n keep) p d =
+    decision (afterFeature f (withSettings (withFeature f (record { state = n; persistent = keep }) (d .settings)) d)) (good 0 0) nothing
+carryOut (returnState f) p d = decision d (good (feature f (d .settings) .state) 0) nothing
+carryOut (returnOption f) p d = decision d (good (bit (feature f (d .settings) .persistent)) 0) nothing
+carryOut sendTable p d = decision (withPending (set (d .command .pending) p table) d) (good 0 1) nothing
+
+-- "A refused key stores its code. An accepted key stores 0000h, a pattern fill FFFFh" (where it begins: Perform.antt).
+abbrev pub decideVerdict : Verdict → ℕ → Device → Decision
+decideVerdict (accepted a) p d = carryOut a p (withCode 0x0000 d)
+decideVerdict (rejected code) p d = decision (withCode code d) (refusedWith code) nothing
+
+-- "Words 0 and 1 are action and function; both are recorded from every key, accepted or not."
+unfoldable pub decideKey : ℕ → List ℕ → Device → Decision
+decideKey p k d = decideVerdict (judgeKey d k) p (withKey (word k 0) (word k 1) d)
+
+-- ---- data
+
+-- A transfer's direction. The table is read, a fill's sector written.
+abbrev pub moves : Direction → Transfer → Bool
+moves d none = false
+moves read table = true
+moves write table = false
+moves read (fillData first end) = false
+moves write (fillData first end) = true
+
+-- the sectors that a transfer moves
+abbrev pub sectorsOf : Transfer → ℕ
+sectorsOf none = 0
+sectorsOf table = 1
+sectorsOf (fillData first end) = 1
+
+-- "E1h is judged: lock 0012h; no owed transfer of this port and direction 000Bh; count not 1 0003h."
+abbrev pub dataChecks : Bool → Direction → ℕ → Transfer → List Check
+dataChecks locked dir count t = (not locked, 0x0012) ∷ (moves dir t, 0x000B) ∷ (eqb count (sectorsOf t), 0x0003) ∷ []
+
+abbrev pub transferEffect : Transfer → List ℕ → Effect
+transferEffect none sector = nothing
+transferEffect table sector = sendTemperatures
+transferEffect (fillData first end) sector = beginFill first end sector
+
+-- "Each becomes the stored code." "A completed transfer stores 0000h, or FFFFh where it starts a fill."
+unfoldable pub decideData : Direction → ℕ → Transfer → List ℕ → Device → Decision
+decideData dir count t sector d =
+    let code = firstFailed (dataChecks (d .locked) dir count t) in
+    ifPassed code (decision (withCode 0x0000 d) (good 0 0) (transferEffect t sector)) (decision (withCode code d) (refusedWith code) nothing)
+
+-- ---- one sector
+
+-- "Count (16 bits) other than 1: Error 04h. LBA at or above V: Error 10h. Locked: Error 04h, before both."
+abbrev pub sectorChecks : Device → ℕ → ℕ → List Check
+sectorChecks d count lba = (not (d .locked), 0x04) ∷ (eqb count 1, 0x04) ∷ (ltb lba (d .visible), 0x10) ∷ []
+
+abbrev pub sectorEffect : Direction → ℕ → List ℕ → Effect
+sectorEffect read lba sector = readLba lba
+sectorEffect write lba sector = writeLba lba sector
+
+unfoldable pub decideSector : Direction → ℕ → ℕ → List ℕ → Device → Decision
+decideSector dir count lba sector d =
+    let error = firstFailed (sectorChecks d count lba) in
+    ifPassed error (decision d (good 0 0) (sectorEffect dir lba sector)) (decision d (refused error) nothing)
+
+-- ---- any request
+
+abbrev pub pendingFor : ℕ → Device → Transfer
+pendingFor p d = getD (d .command .pending) p none
+
+-- "Every request but a well-formed status read first stops a running fill (code 0008h) and drops an owed transfer;
+-- an E1h request judges that owed transfer as it was before."
+-- "All else ..: Error 04h, stored code unchanged unless a fill was stopped."
+abbrev pub decideRequest : Request → ℕ → List ℕ → Device → Decision
+decideRequest statusRead p m d = decideStatus d
+decideRequest keySector p m d = decideKey p (dataOf m) (interrupt d)
+decideRequest (dataTransfer dir count) p m d = decideData dir count (pendingFor p d) (dataOf m) (interrupt d)
+decideRequest (sectorAccess dir count lba) p m d = decideSector dir count lba (dataOf m) (interrupt d)
+decideRequest other p m d = decision (interrupt d) (refused 0x04) nothing
+
+-- the request m of the port p
+unfoldable pub decide : ℕ → List ℕ → Device → Decision
+decide p m d = decideRequest (requestOf m) p m d

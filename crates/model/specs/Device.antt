@@ -1,0 +1,59 @@
+-- The device: what the model machine holds beside the disk and the ports.
+use mathlib.Core.Bool.{Bool}
+use Prim.Native.Nat.{ℕ}
+use mathlib.Core.List.{List}
+
+-- A fill: none, or one that runs, with its first sector, the next to write, and the end (the first behind it).
+-- 01 counts the sector to write among a fill's parts: the machine holds it beside the device (Machine.antt).
+pub data Fill : Type 0 where
+  idle : Fill
+  running : ℕ → ℕ → ℕ → Fill
+
+-- A pending transfer (01: owed): a key announced that the sector moves at an E1h request.
+-- A fill's sector comes from the host, with the fill's first sector and its end; the temperature table goes to the host.
+pub data Transfer : Type 0 where
+  none : Transfer
+  table : Transfer
+  fillData : ℕ → ℕ → Transfer
+
+-- The last SCT command: its extended status code (01: stored code), action and function, and what it left to do.
+-- pending has a place for each port; in the base at most one is used.
+pub record Command : Type 0 where
+  pub code : ℕ
+  pub action : ℕ
+  pub function : ℕ
+  pub fill : Fill
+  pub pending : List Transfer
+
+-- A feature's state, and whether it is kept over power (01: its mark).
+pub record Feature : Type 0 where
+  pub state : ℕ
+  pub persistent : Bool
+
+-- Error recovery timers, in 100 ms, and "feature states: 1 (write cache) ..; 2 (reordering) ..; 3 (log interval)".
+pub record Settings : Type 0 where
+  pub readTimer : ℕ
+  pub writeTimer : ℕ
+  pub writeCache : Feature
+  pub reordering : Feature
+  pub logInterval : Feature
+
+-- Temperatures now, the highest of this power cycle and of the device's life; the history, the index of its
+-- newest reading, and the minutes since that was logged.
+pub record Thermal : Type 0 where
+  pub now : ℕ
+  pub cycleMaximum : ℕ
+  pub lifeMaximum : ℕ
+  pub history : List ℕ
+  pub index : ℕ
+  pub minutes : ℕ
+
+-- native and visible are N and V; initialized is the Segment Initialized flag.
+pub record Device : Type 0 where
+  pub native : ℕ
+  pub visible : ℕ
+  pub locked : Bool
+  pub initialized : Bool
+  pub command : Command
+  pub settings : Settings
+  pub thermal : Thermal

@@ -1,0 +1,251 @@
+-- The saved image: its entries, when it is readable, saving, and what power-on restores.
+use mathlib.Core.Bool.{Bool, true, false, _&&_, _||_}
+use Prim.Native.Nat.{ℕ, zero, suc, _+_, _-_, _*_, _/_, _%_}
+use mathlib.Core.List.{List, [], _∷_, _++_}
+use lib.ListN.{length, getD, replicate}
+use lib.Seq.{sets}
+use lib.Dec.{eqb, leb, ltb}
+use Rattle.wire.specs.Choice.{if_then_else_, bit, between, Check}
+use Rattle.wire.specs.Numbers.{get}
+use Rattle.wire.specs.Parts.{part}
+use Rattle.wire.specs.Layout.{Field, form}
+use Rattle.wire.specs.Bytes.{same}
+use Rattle.model.specs.Sizes.{sectorSize, nativeLimit, historySize, missing, powerOnTimer, bodySize, trailerSize, entrySize, entryLimit, badLength, badImage, otherDisk, imageFull}
+use Rattle.model.specs.Device.{idle, Feature, Settings, Thermal, Device}
+use Rattle.model.specs.Key.{highestState}
+use Rattle.model.specs.Temperature.{emptyHistory, emptyIndex, tableBytes}
+use Rattle.model.specs.Fill.{nothingPending}
+
+-- ---- an entry
+
+-- what an entry saves
+pub record Saved : Type 0 where
+  pub native : ℕ
+  pub visible : ℕ
+  pub initialized : Bool
+  pub lifeMaximum : ℕ
+  pub writeCache : Feature
+  pub reordering : Feature
+  pub logInterval : Feature
+  pub history : List ℕ
+  pub index : ℕ
+
+unfoldable pub savedFrom : Device → Saved
+savedFrom d =
+    record {
+      native = d .native;
+      visible = d .visible;
+      initialized = d .initialized;
+      lifeMaximum = d .thermal .lifeMaximum;
+      writeCache = d .settings .writeCache;
+      reordering = d .settings .reordering;
+      logInterval = d .settings .logInterval;
+      history = d .thermal .history;
+      index = d .thermal .index;
+    }
+
+-- "Body: N at 0 and V at 8 (8 bytes each), flag 16, life maximum 17, features 1 to 3 at 18, 20, 22,
+-- kept marks in bits 0 to 2 of byte 24, zeros to 31, then the temperature table."
+abbrev pub headFields : Saved → List Field
+headFields s =
+    (0, 8, s .native)
+    ∷ (8, 8, s .visible)
+    ∷ (16, 1, bit (s .initialized))
+    ∷ (17, 1, s .lifeMaximum)
+    ∷ (18, 2, s .writeCache .state)
+    ∷ (20, 2, s .reordering .state)
+    ∷ (22, 2, s .logInterval .state)
+    ∷ (24, 1, bit (s .writeCache .persistent) + 2 * bit (s .reordering .persistent) + 4 * bit (s .logInterval .persistent))
+    ∷ []
+
+abbrev pub headSize : ℕ
+headSize = 32
+
+unfoldable pub bodyBytes : Saved → List ℕ
+bodyBytes s = form headSize (headFields s) ++ tableBytes (s .logInterval .state) (s .index) (s .history)
+
+-- whether the bit of a weight (1, 2, 4 ..) is 1 in a byte
+abbrev pub hasBit : ℕ → ℕ → Bool
+hasBit weight byte = eqb (byte / weight % 2) 1
+
+-- what a body's fields say
+unfoldable pub savedIn : List ℕ → Saved
+savedIn b =
+    record {
+      native = get 8 b 0;
+      visible = get 8 b 8;
+      initialized = eqb (get 1 b 16) 1;
+      lifeMaximum = get 1 b 17;
+      writeCache = record { state = get 2 b 18; persistent = hasBit 1 (get 1 b 24) };
+      reordering = record { state = get 2 b 20; persistent = hasBit 2 (get 1 b 24) };
+      logInterval = record { state = get 2 b 22; persistent = hasBit 4 (get 1 b 24) };
+      history = part b (headSize + 34) historySize;
+      index = get 2 b (headSize + 32);
+    }
+
+-- "values in range"
+unfoldable pub inRange : Saved → Bool
+inRange s =
+    between 1 (s .native) nativeLimit
+    && between 1 (s .visible) (s .native)
+    && between 1 (s .writeCache .state) (highestState 1)
+    && between 1 (s .reordering .state) (highestState 2)
+    && between 1 (s .logInterval .state) (highestState 3)
+    && ltb (s .index) historySize
+
+-- A body holds where it is, byte for byte, the body of values in range: so "zeros zero, table interval equal to feature 3".
+unfoldable pub bodyHolds : List ℕ → Bool
+bodyHolds b = same (bodyBytes (savedIn b)) b && inRange (savedIn b)
+
+-- "then the letters SCTE"
+abbrev pub tag : List ℕ
+tag = 0x53 ∷ 0x43 ∷ 0x54 ∷ 0x45 ∷ []
+
+-- "Trailer k stands at 560k - 16."
+abbrev pub trailerPlace : ℕ → ℕ
+trailerPlace k = entrySize * k - trailerSize
+
+-- "the place of the previous trailer (FFFFFFFFh for the first)"
+abbrev pub previousPlace : ℕ → ℕ
+previousPlace k = if eqb k 1 then 0xFFFFFFFF else trailerPlace (k - 1)
+
+-- "Trailer: 544, the place of the previous trailer .., the entry number from 1 (4 bytes each), then the letters SCTE."
+unfoldable pub trailerBytes : ℕ → List ℕ
+trailerBytes k = form 12 ((0, 4, bodySize) ∷ (4, 4, previousPlace k) ∷ (8, 4, k) ∷ []) ++ tag
+
+abbrev pub bodyAt : List ℕ → ℕ → List ℕ
+bodyAt image k = part image (trailerPlace k - bodySize) bodySize
+
+abbrev pub trailerAt : List ℕ → ℕ → List ℕ
+trailerAt image k = part image (trailerPlace k) trailerSize
+
+-- entry k holds: its body, its N, its trailer
+unfoldable pub entryHolds : ℕ → List ℕ → ℕ → Bool
+entryHolds native image k =
+    bodyHolds (bodyAt image k) && eqb (savedIn (bodyAt image k) .native) native && same (trailerAt image k) (trailerBytes k)
+
+-- ---- an image
+
+-- f holds of 1, 2, .., n
+abbrev pub every : ℕ → (ℕ → Bool) → Bool
+every zero f = true
+every (suc k) f = f (suc k) && every k f
+
+abbrev pub entries : ℕ → ℕ
+entries used = used / entrySize
+
+-- "the newest entry"
+abbrev pub newest : List ℕ → ℕ → Saved
+newest image used = savedIn (bodyAt image (entries used))
+
+-- "The used length is a multiple of 560, at most 65,520; all entries have the same N. .. every entry must hold"
+unfoldable pub readable : List ℕ → ℕ → Bool
+readable image used =
+    eqb (used % entrySize) 0
+    && leb used (entrySize * entryLimit)
+    && every (entries used) (entryHolds (newest image used .native) image)
+
+-- "Reading starts at the last trailer and follows the chain back": n entries, the last trailer at a place.
+unfoldable pub chainHolds : ℕ → List ℕ → ℕ → ℕ → Bool
+chainHolds native image zero at = eqb at 0xFFFFFFFF
+chainHolds native image (suc k) at =
+    eqb at (trailerPlace (suc k)) && entryHolds native image (suc k) && chainHolds native image k (get 4 image (at + 4))
+
+-- "newest entry's N is not this disk's": 7
+abbrev pub sameDisk : ℕ → List ℕ → ℕ → Bool
+sameDisk native image used = eqb used 0 || eqb (newest image used .native) native
+
+-- ---- save
+
+-- "full: .. image has 117 entries, or its buffer lacks 560 more bytes"
+abbrev pub hasRoom : List ℕ → ℕ → Bool
+hasRoom image used = ltb (entries used) entryLimit && leb (used + entrySize) (length image)
+
+abbrev pub saveChecks : ℕ → List ℕ → ℕ → List Check
+saveChecks native image used =
+    (leb used (length image), badLength)
+    ∷ (readable image used, badImage)
+    ∷ (sameDisk native image used, otherDisk)
+    ∷ (hasRoom image used, imageFull)
+    ∷ []
+
+-- "A save adds one entry behind the used length; other bytes stay."
+unfoldable pub savedImage : Device → List ℕ → ℕ → List ℕ
+savedImage d image used = sets image used (bodyBytes (savedFrom d) ++ trailerBytes (suc (entries used)))
+
+-- ---- power-on
+
+-- "a lent run of 1 to 65,536 sectors": "power-on: not 1 to 65,536 whole sectors" is 2
+abbrev pub wholeSectors : ℕ → Bool
+wholeSectors size = eqb (size % sectorSize) 0 && between 1 (size / sectorSize) nativeLimit
+
+abbrev pub powerOnChecks : List ℕ → List ℕ → ℕ → List Check
+powerOnChecks disk image used =
+    (wholeSectors (length disk), badLength)
+    ∷ (leb used (length image), badLength)
+    ∷ (readable image used, badImage)
+    ∷ (sameDisk (length disk / sectorSize) image used, otherDisk)
+    ∷ []
+
+abbrev pub defaultFeature : Feature
+defaultFeature = record { state = 1; persistent = false }
+
+-- "Power-on from length 0 gives V = N, no flag, missing temperatures, defaults, empty history"
+abbrev pub blank : ℕ → Saved
+blank native =
+    record {
+      native = native;
+      visible = native;
+      initialized = false;
+      lifeMaximum = missing;
+      writeCache = defaultFeature;
+      reordering = defaultFeature;
+      logInterval = defaultFeature;
+      history = emptyHistory;
+      index = emptyIndex;
+    }
+
+-- "Option 1 keeps a state over power; other states return to 1."
+abbrev pub kept : Feature → Feature
+kept f = record { state = if f .persistent then f .state else 1; persistent = f .persistent }
+
+-- "Timers return to 0 at power-on."
+abbrev pub powerOnSettings : Saved → Settings
+powerOnSettings s =
+    record {
+      readTimer = powerOnTimer;
+      writeTimer = powerOnTimer;
+      writeCache = kept (s .writeCache);
+      reordering = kept (s .reordering);
+      logInterval = kept (s .logInterval);
+    }
+
+-- ".. with "now" and this cycle's maximum missing. The history is kept if the interval after power-on equals the saved one; minutes are 0."
+abbrev pub powerOnThermal : Saved → Thermal
+powerOnThermal s =
+    let same = eqb (kept (s .logInterval) .state) (s .logInterval .state) in
+    record {
+      now = missing;
+      cycleMaximum = missing;
+      lifeMaximum = s .lifeMaximum;
+      history = if same then s .history else emptyHistory;
+      index = if same then s .index else emptyIndex;
+      minutes = 0;
+    }
+
+-- "Unlocked, no fill, nothing owed, .. code, action and function 0 .. The flag is believed as saved."
+unfoldable pub powerOn : Saved → Device
+powerOn s =
+    record {
+      native = s .native;
+      visible = s .visible;
+      locked = false;
+      initialized = s .initialized;
+      command = record { code = 0; action = 0; function = 0; fill = idle; pending = nothingPending };
+      settings = powerOnSettings s;
+      thermal = powerOnThermal s;
+    }
+
+-- ".. from length 0 ..; otherwise the newest entry"
+unfoldable pub restored : ℕ → List ℕ → ℕ → Saved
+restored native image used = if eqb used 0 then blank native else newest image used

@@ -1,0 +1,147 @@
+-- The key sector: its checks in the paper's order, and what an accepted key asks.
+use mathlib.Core.Bool.{Bool, true, false, not, _&&_, _||_}
+use Prim.Native.Nat.{ℕ, zero, suc, _+_, _-_, _*_, _<_}
+use mathlib.Core.List.{List, [], _∷_, _++_}
+use lib.Dec.{eqb, leb, ltb}
+use Rattle.wire.specs.Choice.{if_then_else_, between, Check, firstFailed}
+use Rattle.wire.specs.Numbers.{get}
+use Rattle.wire.specs.Parts.{part}
+use Rattle.model.specs.Device.{Device}
+use Rattle.model.specs.Registers.{Direction, read, write}
+
+-- word i of a key sector: "Words 0 and 1 are action and function"
+abbrev pub word : List ℕ → ℕ → ℕ
+word k i = get 2 k (2 * i)
+
+-- "2 fill: .. Start bytes 4-11, Count 12-19"
+abbrev pub start : List ℕ → ℕ
+start k = get 8 k 4
+
+abbrev pub count : List ℕ → ℕ
+count k = get 8 k 12
+
+-- "Last user LBA is V-1."
+abbrev pub lastLba : ℕ → ℕ
+lastLba visible = visible - 1
+
+-- ---- the checks: a row is what must hold, and the code given where it does not
+
+-- "1 pattern, 2 sector; else 0001h"; "Start above last user LBA, or Start + Count above last user LBA: 0002h"
+-- "Start + Count is a whole-number sum; it never wraps."
+abbrev pub fillChecks : ℕ → List ℕ → List Check
+fillChecks visible k =
+    (between 1 (word k 1) 2, 0x0001)
+    ∷ (leb (start k) (lastLba visible), 0x0002)
+    ∷ (leb (start k + count k) (lastLba visible), 0x0002)
+    ∷ []
+
+-- "1 set, 2 return; else 0004h"; "word 2 is 1 read or 2 write, else 0005h";
+-- "set: word 3 in 100 ms, 1 to 9 gives 0006h (read) or 0007h (write); 0 is off"
+abbrev pub timerChecks : List ℕ → List Check
+timerChecks k =
+    (between 1 (word k 1) 2, 0x0004)
+    ∷ (between 1 (word k 2) 2, 0x0005)
+    ∷ (not (eqb (word k 1) 1 && between 1 (word k 3) 9), if eqb (word k 2) 1 then 0x0006 else 0x0007)
+    ∷ []
+
+-- "Feature states: 1 (write cache) 1 to 3; 2 (reordering) 1 or 2; 3 (log interval) 1 to 65,535 minutes."
+abbrev pub highestState : ℕ → ℕ
+highestState feature = if eqb feature 1 then 3 else if eqb feature 2 then 2 else 65535
+
+-- "1 set, 2 state, 3 options; else 000Ch"; "word 2 is 1 to 3, else 000Dh";
+-- "set only: word 3 invalid 000Eh, then word 4 other than 0 or 1 000Fh"
+abbrev pub featureChecks : List ℕ → List Check
+featureChecks k =
+    (between 1 (word k 1) 3, 0x000C)
+    ∷ (between 1 (word k 2) 3, 0x000D)
+    ∷ (not (eqb (word k 1) 1) || between 1 (word k 3) (highestState (word k 2)), 0x000E)
+    ∷ (not (eqb (word k 1) 1) || leb (word k 4) 1, 0x000F)
+    ∷ []
+
+-- "5 table: 1; else 0001h"; "word 2 is 2, else 0011h"
+abbrev pub tableChecks : List ℕ → List Check
+tableChecks k = (eqb (word k 1) 1, 0x0001) ∷ (eqb (word k 2) 2, 0x0011) ∷ []
+
+-- the further checks of an action
+abbrev pub actionChecks : ℕ → List ℕ → List Check
+actionChecks visible k =
+    if eqb (word k 0) 2 then fillChecks visible k
+    else if eqb (word k 0) 3 then timerChecks k
+    else if eqb (word k 0) 4 then featureChecks k
+    else tableChecks k
+
+-- "any, locked: 0012h"; "not 2 to 5: 0010h"
+unfoldable pub keyChecks : Device → List ℕ → List Check
+keyChecks d k = (not (d .locked), 0x0012) ∷ (between 2 (word k 0) 5, 0x0010) ∷ actionChecks (d .visible) k
+
+-- ---- what an accepted key asks
+
+pub data FeatureName : Type 0 where
+  writeCache : FeatureName
+  reordering : FeatureName
+  logInterval : FeatureName
+
+-- A fill's numbers are its first sector and its end; with a pattern comes the sector to write.
+pub data Action : Type 0 where
+  fillPattern : ℕ → ℕ → List ℕ → Action
+  fillSector : ℕ → ℕ → Action
+  setTimer : Direction → ℕ → Action
+  returnTimer : Direction → Action
+  setFeature : FeatureName → ℕ → Bool → Action
+  returnState : FeatureName → Action
+  returnOption : FeatureName → Action
+  sendTable : Action
+
+-- n times l
+unfoldable pub repeated : ℕ → List ℕ → List ℕ
+repeated zero l = []
+repeated (suc n) l = l ++ repeated n l
+
+-- "bytes 20-23 repeated 128 times"
+abbrev pub patternSector : List ℕ → List ℕ
+patternSector k = repeated 128 (part k 20 4)
+
+-- "Count 0 means up to the last user LBA."
+abbrev pub fillEnd : ℕ → List ℕ → ℕ
+fillEnd visible k = if eqb (count k) 0 then visible else start k + count k
+
+abbrev pub timerName : ℕ → Direction
+timerName n = if eqb n 1 then read else write
+
+abbrev pub featureName : ℕ → FeatureName
+featureName n = if eqb n 1 then writeCache else if eqb n 2 then reordering else logInterval
+
+abbrev pub fillAction : ℕ → List ℕ → Action
+fillAction visible k =
+    if eqb (word k 1) 1 then fillPattern (start k) (fillEnd visible k) (patternSector k)
+    else fillSector (start k) (fillEnd visible k)
+
+abbrev pub timerAction : List ℕ → Action
+timerAction k = if eqb (word k 1) 1 then setTimer (timerName (word k 2)) (word k 3) else returnTimer (timerName (word k 2))
+
+abbrev pub featureAction : List ℕ → Action
+featureAction k =
+    if eqb (word k 1) 1 then setFeature (featureName (word k 2)) (word k 3) (eqb (word k 4) 1)
+    else if eqb (word k 1) 2 then returnState (featureName (word k 2))
+    else returnOption (featureName (word k 2))
+
+unfoldable pub actionOf : ℕ → List ℕ → Action
+actionOf visible k =
+    if eqb (word k 0) 2 then fillAction visible k
+    else if eqb (word k 0) 3 then timerAction k
+    else if eqb (word k 0) 4 then featureAction k
+    else sendTable
+
+-- A key is accepted with what it asks, or refused with its code.
+pub data Verdict : Type 0 where
+  accepted : Action → Verdict
+  rejected : ℕ → Verdict
+
+-- the code 0 means that no check failed
+abbrev pub verdict : ℕ → Action → Verdict
+verdict zero a = accepted a
+verdict (suc n) a = rejected (suc n)
+
+-- the first row that fails decides
+unfoldable pub judgeKey : Device → List ℕ → Verdict
+judgeKey d k = verdict (firstFailed (keyChecks d k)) (actionOf (d .visible) k)

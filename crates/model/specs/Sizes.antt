@@ -1,0 +1,79 @@
+-- Sizes, limits and answer numbers of document 01.
+use Prim.Native.Nat.{ℕ, _+_, _*_}
+use mathlib.Core.List.{List, [], _∷_}
+
+-- "Disk: a lent run of 1 to 65,536 sectors of 512 bytes (native size N)."
+abbrev pub sectorSize : ℕ
+sectorSize = 512
+
+abbrev pub nativeLimit : ℕ
+nativeLimit = 65536
+
+-- "Ports 0 to 3. A mailbox is 528 bytes: 16 of registers, then a 512-byte sector."
+abbrev pub portCount : ℕ
+portCount = 4
+
+abbrev pub registersSize : ℕ
+registersSize = 16
+
+abbrev pub mailboxSize : ℕ
+mailboxSize = registersSize + sectorSize
+
+-- "size 478 at 30; .. history from 34"
+abbrev pub historySize : ℕ
+historySize = 478
+
+-- "Bytes are two's complement; 80h means missing."
+abbrev pub missing : ℕ
+missing = 0x80
+
+-- "Timers return to 0 at power-on."
+abbrev pub powerOnTimer : ℕ
+powerOnTimer = 0
+
+-- "Entries of 560 bytes: 544 of body, a 16-byte trailer at the end."
+abbrev pub bodySize : ℕ
+bodySize = 544
+
+abbrev pub trailerSize : ℕ
+trailerSize = 16
+
+abbrev pub entrySize : ℕ
+entrySize = bodySize + trailerSize
+
+-- "full: on a save only: image has 117 entries"; "The used length is .. at most 65,520".
+abbrev pub entryLimit : ℕ
+entryLimit = 117
+
+-- ---- the answers of a step: "No. Meaning"
+
+abbrev pub done : ℕ
+done = 0
+
+abbrev pub badPort : ℕ
+badPort = 1
+
+abbrev pub badLength : ℕ
+badLength = 2
+
+abbrev pub badStage : ℕ
+badStage = 3
+
+abbrev pub badRecord : ℕ
+badRecord = 4
+
+abbrev pub badValue : ℕ
+badValue = 5
+
+abbrev pub badImage : ℕ
+badImage = 6
+
+abbrev pub otherDisk : ℕ
+otherDisk = 7
+
+abbrev pub imageFull : ℕ
+imageFull = 8
+
+-- "Order where several apply: 4, 2, 1, 5, 3, 6, 7, 8."
+abbrev pub refusalOrder : List ℕ
+refusalOrder = badRecord ∷ badLength ∷ badPort ∷ badValue ∷ badStage ∷ badImage ∷ otherDisk ∷ imageFull ∷ []

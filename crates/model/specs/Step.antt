@@ -1,0 +1,178 @@
+-- The steps of the machine: what each is fed, what it is refused for, what it does and what is seen of it; a list of steps.
+use mathlib.Core.Bool.{Bool, true, false}
+use Prim.Native.Nat.{ℕ, _+_, _/_}
+use mathlib.Core.List.{List, [], _∷_}
+use lib.ListN.{length}
+use lib.Dec.{eqb, ltb}
+use Rattle.wire.specs.Choice.{between, Check, firstFailed, ifPassed}
+use Rattle.model.specs.Sizes.{sectorSize, portCount, mailboxSize, entrySize, done, badPort, badLength, badStage, badValue}
+use Rattle.model.specs.Device.{Device}
+use Rattle.model.specs.Registers.{replyBytes}
+use Rattle.model.specs.Fill.{Volume, workCount}
+use Rattle.model.specs.Fill.{work as workVolume}
+use Rattle.model.specs.Decide.{Decision, decide}
+use Rattle.model.specs.Perform.{written, sent, fillSectorAfter}
+use Rattle.model.specs.Owner.{setLock, sample as sampleDevice}
+use Rattle.model.specs.Owner.{setVisible as setVisibleDevice}
+use Rattle.model.specs.Image.{saveChecks, savedImage, powerOnChecks, restored}
+use Rattle.model.specs.Image.{powerOn as powerOnDevice}
+use Rattle.model.specs.Machine.{Port, empty, request, reply, Machine, machine, withPort, heldBytes}
+
+-- what a serve is fed
+pub record Serving : Type 0 where
+  pub port : ℕ
+
+-- "fed only port, n, V, reading, mailbox and image with its used length"
+pub data Step : Type 0 where
+  take : ℕ → List ℕ → Step
+  serve : Serving → Step
+  give : ℕ → List ℕ → Step
+  work : ℕ → Step
+  lock : Step
+  unlock : Step
+  setVisible : ℕ → Step
+  sample : ℕ → Step
+  save : List ℕ → ℕ → Step
+  powerOn : List ℕ → ℕ → Step
+
+-- What the firmware sees of a step: the answer number, the count of sectors written, the mailbox, the image and its used
+-- length afterwards. A step that is lent no mailbox or image has [] and 0 there.
+pub record Seen : Type 0 where
+  pub answer : ℕ
+  pub count : ℕ
+  pub mailbox : List ℕ
+  pub image : List ℕ
+  pub used : ℕ
+
+pub record Outcome (S : Type 0) : Type 0 where
+  pub state : S
+  pub seen : Seen
+
+-- ---- refusals
+
+abbrev pub isEmpty : Port → Bool
+isEmpty empty = true
+isEmpty (request m) = false
+isEmpty (reply m) = false
+
+abbrev pub isRequest : Port → Bool
+isRequest empty = false
+isRequest (request m) = true
+isRequest (reply m) = false
+
+abbrev pub isReply : Port → Bool
+isReply empty = false
+isReply (request m) = false
+isReply (reply m) = true
+
+-- "1 port: port above 3"; "2 length: a lent buffer isn't of its size"; "3 stage: slot not in the stage the step needs";
+-- "5 value: V asked is 0 or above N"
+abbrev pub checks : Step → Machine → List Check
+checks (take p m) M = (eqb (length m) mailboxSize, badLength) ∷ (ltb p portCount, badPort) ∷ (isEmpty (M .ports p), badStage) ∷ []
+checks (serve s) M = (ltb (s .port) portCount, badPort) ∷ (isRequest (M .ports (s .port)), badStage) ∷ []
+checks (give p m) M = (eqb (length m) mailboxSize, badLength) ∷ (ltb p portCount, badPort) ∷ (isReply (M .ports p), badStage) ∷ []
+checks (work n) M = []
+checks lock M = []
+checks unlock M = []
+checks (setVisible v) M = (between 1 v (M .device .native), badValue) ∷ []
+checks (sample reading) M = []
+checks (save image used) M = saveChecks (M .device .native) image used
+checks (powerOn image used) M = powerOnChecks (M .disk) image used
+
+-- ---- what is seen
+
+abbrev pub answered : ℕ → Seen
+answered n = record { answer = n; count = 0; mailbox = []; image = []; used = 0 }
+
+abbrev pub answeredMailbox : ℕ → List ℕ → Seen
+answeredMailbox n m = record { answer = n; count = 0; mailbox = m; image = []; used = 0 }
+
+abbrev pub answeredImage : ℕ → List ℕ → ℕ → Seen
+answeredImage n image used = record { answer = n; count = 0; mailbox = []; image = image; used = used }
+
+-- an answer that leaves the buffers as they were lent
+abbrev pub unchanged : Step → ℕ → Seen
+unchanged (take p m) n = answeredMailbox n m
+unchanged (serve s) n = answered n
+unchanged (give p m) n = answeredMailbox n m
+unchanged (work k) n = answered n
+unchanged lock n = answered n
+unchanged unlock n = answered n
+unchanged (setVisible v) n = answered n
+unchanged (sample reading) n = answered n
+unchanged (save image used) n = answeredImage n image used
+unchanged (powerOn image used) n = answeredImage n image used
+
+-- what is seen of a step that is done
+abbrev pub seen : Step → Machine → Seen
+seen (take p m) M = unchanged (take p m) done
+seen (serve s) M = unchanged (serve s) done
+seen (give p m) M = answeredMailbox done (heldBytes (M .ports p))
+seen (work n) M = record { answer = done; count = workCount n (M .device .command .fill); mailbox = []; image = []; used = 0 }
+seen lock M = unchanged lock done
+seen unlock M = unchanged unlock done
+seen (setVisible v) M = unchanged (setVisible v) done
+seen (sample reading) M = unchanged (sample reading) done
+seen (save image used) M = answeredImage done (savedImage (M .device) image used) (used + entrySize)
+seen (powerOn image used) M = unchanged (powerOn image used) done
+
+-- ---- what is done
+
+abbrev pub volume : Machine → Volume
+volume M = record { device = M .device; disk = M .disk }
+
+-- "Serve carries it out whole by the rules above; the reply replaces it."
+unfoldable pub serveDecided : ℕ → Decision → Machine → Machine
+serveDecided p c M =
+    let decided : Volume = record { device = c .device; disk = M .disk } in
+    let v = written (c .effect) decided in
+    let answer = replyBytes (c .registers) (sent (c .effect) decided) in
+    machine (v .device) (fillSectorAfter (c .effect) (M .sector)) (withPort p (reply answer) (M .ports)) (v .disk)
+
+unfoldable pub served : ℕ → Machine → Machine
+served p M = serveDecided p (decide p (heldBytes (M .ports p)) (M .device)) M
+
+-- "Work writes the fill's sector to the k places from next on and moves next by k"
+unfoldable pub worked : ℕ → Machine → Machine
+worked n M = let v = workVolume n (M .sector) (volume M) in machine (v .device) (M .sector) (M .ports) (v .disk)
+
+-- a step on the device alone
+abbrev pub onDevice : (Device → Device) → Machine → Machine
+onDevice f M = machine (f (M .device)) (M .sector) (M .ports) (M .disk)
+
+-- "slots empty": the machine after a power-on with this disk and image
+unfoldable pub poweredOn : List ℕ → List ℕ → ℕ → Machine
+poweredOn disk image used = machine (powerOnDevice (restored (length disk / sectorSize) image used)) [] (λ i. empty) disk
+
+-- "Take keeps the mailbox as the port's request. .. Give delivers it and clears the port. .. Owner steps go by their rules."
+abbrev pub does : Step → Machine → Machine
+does (take p m) M = machine (M .device) (M .sector) (withPort p (request m) (M .ports)) (M .disk)
+does (serve s) M = served (s .port) M
+does (give p m) M = machine (M .device) (M .sector) (withPort p empty (M .ports)) (M .disk)
+does (work n) M = worked n M
+does lock M = onDevice (setLock true) M
+does unlock M = onDevice (setLock false) M
+does (setVisible v) M = onDevice (setVisibleDevice v) M
+does (sample reading) M = onDevice (sampleDevice reading) M
+does (save image used) M = M
+does (powerOn image used) M = poweredOn (M .disk) image used
+
+-- ---- a step, and a list of steps
+
+-- "A nonzero answer changes nothing anywhere; work then reports 0."
+abbrev pub attempt : {S : Type 0} → ℕ → S → Seen → Outcome S → Outcome S
+attempt n s refusal success = ifPassed n success (record { state = s; seen = refusal })
+
+unfoldable pub step : Step → Machine → Outcome Machine
+step x M =
+    let n = firstFailed (checks x M) in
+    attempt n M (unchanged x n) (record { state = does x M; seen = seen x M })
+
+-- the outcome of every step of a list, each from the state that the last one left
+abbrev pub trace : {S : Type 0} → (Step → S → Outcome S) → List Step → S → List (Outcome S)
+trace f [] s = []
+trace f (x ∷ xs) s = f x s ∷ trace f xs (f x s .state)
+
+-- a first power-on: "Start with a power-on that answers 0", on any disk and image
+unfoldable pub firstAnswer : List ℕ → List ℕ → ℕ → ℕ
+firstAnswer disk image used = firstFailed (powerOnChecks disk image used)

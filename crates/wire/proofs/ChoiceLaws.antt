@@ -1,0 +1,72 @@
+-- Laws of tests and of lists of checks.
+use mathlib.Core.Path.{_≡_, refl, sym, ap, _∙_}
+use mathlib.Core.Bool.{Bool, true, false, _&&_}
+use Prim.Native.Nat.{ℕ, zero, suc, _≤_, _<_}
+use native.Mathlib.Omega.{arith}
+use mathlib.Core.List.{List, [], _∷_, _++_}
+use borrow.Author.Tests.{leb-true, le-leb}
+use lib.Dec.{leb}
+use Rattle.wire.specs.Choice.{if_then_else_, bit, between, Check, firstFailed, ifPassed}
+
+pub and-left : (a b : Bool) → (a && b) ≡ true → a ≡ true
+and-left true b h = refl
+and-left false b h = h
+
+pub and-right : (a b : Bool) → (a && b) ≡ true → b ≡ true
+and-right true b h = h
+and-right false b h = cc
+
+pub and-both : (a b : Bool) → a ≡ true → b ≡ true → (a && b) ≡ true
+and-both a b p q = rw (p, q)
+
+pub between-true : (low x high : ℕ) → between low x high ≡ true → (low ≤ x) × (x ≤ high)
+between-true low x high h =
+    (leb-true low x (and-left (leb low x) (leb x high) h), leb-true x high (and-right (leb low x) (leb x high) h))
+
+pub between-within : (low x high : ℕ) → low ≤ x → x ≤ high → between low x high ≡ true
+between-within low x high p q = and-both (leb low x) (leb x high) (le-leb low x p) (le-leb x high q)
+
+pub bit-small : (b : Bool) → bit b ≤ 1
+bit-small true = omega arith
+bit-small false = omega arith
+
+-- ---- lists of checks
+
+-- every test holds
+abbrev pub AllPass : List Check → Type 0
+AllPass [] = Unit {0}
+AllPass (c ∷ cs) = (c .0 ≡ true) × AllPass cs
+
+-- every number is above 0 and at most the bound
+abbrev pub Numbered : ℕ → List Check → Type 0
+Numbered bound [] = Unit {0}
+Numbered bound (c ∷ cs) = (0 < c .1) × (c .1 ≤ bound) × Numbered bound cs
+
+-- where the number is 0, every test holds
+pub all-pass : (bound : ℕ) (cs : List Check) → Numbered bound cs → firstFailed cs ≡ 0 → AllPass cs
+all-pass bound [] n e = tt
+all-pass bound (c ∷ cs) n e = go (c .0) refl e (all-pass bound cs (n .2))
+  where
+    go : (b : Bool) → c .0 ≡ b → (if b then firstFailed cs else c .1) ≡ 0 → (firstFailed cs ≡ 0 → AllPass cs) → (c .0 ≡ true) × AllPass cs
+    go true q e f = (q, f e)
+    go false q e f = absurd (omega (arith, n .0))
+
+-- where every test holds, the number is 0
+pub pass-all : (cs : List Check) → AllPass cs → firstFailed cs ≡ 0
+pass-all [] p = refl
+pass-all (c ∷ cs) p = rw (p .0) (pass-all cs (p .1))
+
+-- the number is one of the list's, or 0
+pub first-bound : (bound : ℕ) (cs : List Check) → Numbered bound cs → firstFailed cs ≤ bound
+first-bound bound [] n = omega arith
+first-bound bound (c ∷ cs) n = go (c .0) (first-bound bound cs (n .2))
+  where
+    go : (b : Bool) → firstFailed cs ≤ bound → (if b then firstFailed cs else c .1) ≤ bound
+    go true h = h
+    go false h = n .1
+
+-- THE LAW of a table of checks: the first row that fails decides, whatever stands behind it.
+pub first-decides : (before : List Check) (number : ℕ) (behind : List Check) → AllPass before
+    → firstFailed (before ++ (false, number) ∷ behind) ≡ number
+first-decides [] number behind p = refl
+first-decides (c ∷ cs) number behind p = rw (p .0) (first-decides cs number behind (p .1))

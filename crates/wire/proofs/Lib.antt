@@ -1,0 +1,6 @@
+-- Laws of wire's definitions, in reading order.
+pub mod ChoiceLaws
+pub mod NumbersLaws
+pub mod PartsLaws
+pub mod LayoutLaws
+pub mod BytesLaws

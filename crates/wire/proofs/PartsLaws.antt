@@ -1,0 +1,95 @@
+-- Laws of parts of runs of bytes.
+use mathlib.Core.Path.{_≡_, refl, sym, ap, _∙_}
+use Prim.Native.Nat.{ℕ, zero, suc, _+_, _-_, _*_, _≤_, _<_}
+use native.Mathlib.Nat.{suc-add, add-suc, zero-add, add-zero}
+use native.Mathlib.Omega.{arith}
+use mathlib.Core.List.{List, [], _∷_, _++_, append-assoc}
+use lib.ListN.{length, getD, set, take, drop, replicate, length-append, length-take, length-drop, length-replicate}
+use lib.Seq.{take-nil, take-at, drop-at, length-take-le, take-all, drop-set-lt, take-set-le, take-set-lt, drop-set-add, take-take, drop-drop, getD-take, getD-drop, sets, sets-eq, length-sets}
+use Rattle.wire.specs.Numbers.{le, get, put}
+use Rattle.wire.specs.Parts.{part, zeros, padded}
+use Rattle.wire.proofs.NumbersLaws.{get-agree, length-le}
+
+-- ---- length, and one byte
+
+pub length-part : (l : List ℕ) (b n : ℕ) → b + n ≤ length l → length (part l b n) ≡ n
+length-part l b n h = rw (length-take, length-drop) (omega arith)
+
+pub length-zeros : (n : ℕ) → length (zeros n) ≡ n
+length-zeros n = length-replicate n 0
+
+pub length-padded : (n : ℕ) (l : List ℕ) → length l ≤ n → length (padded n l) ≡ n
+unfolding padded
+length-padded n l h = rw (length-append, length-replicate) (omega arith)
+
+pub getD-zeros : (n i : ℕ) → getD (zeros n) i 0 ≡ 0
+getD-zeros zero zero = refl
+getD-zeros zero (suc i) = refl
+getD-zeros (suc n) zero = refl
+getD-zeros (suc n) (suc i) = getD-zeros n i
+
+pub getD-part : (l : List ℕ) (b n i : ℕ) → i < n → getD (part l b n) i 0 ≡ getD l (b + i) 0
+getD-part l b n i h = getD-take n (drop b l) i 0 h ∙ getD-drop b l i 0
+
+-- ---- a part after a run of stores elsewhere, and just there
+
+drop-sets-after : (vs l : List ℕ) (i b : ℕ) → i + length vs ≤ b → drop b (sets l i vs) ≡ drop b l
+drop-sets-after [] l i b h = refl
+drop-sets-after (a ∷ vs) l i b h = drop-sets-after vs (set l i a) (suc i) b (omega arith) ∙ drop-set-lt b l i a (omega arith)
+
+take-sets-before : (vs l : List ℕ) (i n : ℕ) → n ≤ i → take n (sets l i vs) ≡ take n l
+take-sets-before [] l i n h = refl
+take-sets-before (a ∷ vs) l i n h = take-sets-before vs (set l i a) (suc i) n (omega arith) ∙ take-set-le n l i a h
+
+take-drop : (b n : ℕ) (l : List ℕ) → take n (drop b l) ≡ drop b (take (b + n) l)
+take-drop zero n l = rw zero-add
+take-drop (suc b) n [] = rw suc-add (take-nil n)
+take-drop (suc b) n (x ∷ l) = rw suc-add (take-drop b n l)
+
+pub part-after : (vs l : List ℕ) (i b n : ℕ) → i + length vs ≤ b → part (sets l i vs) b n ≡ part l b n
+part-after vs l i b n h = ap (take n) (drop-sets-after vs l i b h)
+
+pub part-before : (vs l : List ℕ) (i b n : ℕ) → b + n ≤ i → part (sets l i vs) b n ≡ part l b n
+part-before vs l i b n h = take-drop b n (sets l i vs) ∙ ap (drop b) (take-sets-before vs l i (b + n) h) ∙ sym (take-drop b n l)
+
+pub part-same : (vs l : List ℕ) (i n : ℕ) → length vs ≡ n → i + n ≤ length l → part (sets l i vs) i n ≡ vs
+part-same vs l i n e h =
+    rw (sets-eq vs l i (rw e h), append-assoc, drop-at (take i l) (vs ++ drop (i + length vs) l) i (length-take-le i l (omega arith)))
+    (take-at vs (drop (i + length vs) l) n e)
+
+-- ---- a part as a window: what is read and stored inside it
+
+pub part-part : (l : List ℕ) (b n i m : ℕ) → i + m ≤ n → part (part l b n) i m ≡ part l (b + i) m
+part-part l b n i m h =
+    take-drop i m (take n (drop b l))
+    ∙ ap (drop i) (take-take (i + m) n (drop b l) h)
+    ∙ sym (take-drop i m (drop b l))
+    ∙ ap (take m) (drop-drop i b l)
+
+pub get-part : (k : ℕ) (l : List ℕ) (b n i : ℕ) → i + k ≤ n → get k (part l b n) i ≡ get k l (b + i)
+get-part k l b n i h =
+    get-agree k (part l b n) l i (b + i) (λ j q. getD-part l b n (i + j) (omega arith) ∙ ap (λ (x : ℕ). getD l x 0) (regroup b i j))
+  where
+    regroup : (a b c : ℕ) → a + (b + c) ≡ a + b + c
+    regroup a b c = omega arith
+
+set-part : (l : List ℕ) (b n i a : ℕ) → i < n → part (set l (b + i) a) b n ≡ set (part l b n) i a
+set-part l b n i a h = ap (take n) (drop-set-add b l i a) ∙ take-set-lt n (drop b l) i a h
+
+pub sets-part : (vs l : List ℕ) (b n i : ℕ) → i + length vs ≤ n → part (sets l (b + i) vs) b n ≡ sets (part l b n) i vs
+sets-part [] l b n i h = refl
+sets-part (a ∷ vs) l b n i h =
+    rw (← add-suc b i)
+    (sets-part vs (set l (b + i) a) b n (suc i) (omega arith) ∙ ap (λ (x : List ℕ). sets x (suc i) vs) (set-part l b n i a (omega arith)))
+
+pub put-part : (k v : ℕ) (l : List ℕ) (b n i : ℕ) → i + k ≤ n → part (put k l (b + i) v) b n ≡ put k (part l b n) i v
+unfolding put
+put-part k v l b n i h = sets-part (le k v) l b n i (rw (length-le k v) h)
+
+-- ---- two runs, one behind the other
+
+pub part-append-left : (xs ys : List ℕ) (n : ℕ) → length xs ≡ n → part (xs ++ ys) 0 n ≡ xs
+part-append-left xs ys n e = take-at xs ys n e
+
+pub part-append-right : (xs ys : List ℕ) (n m : ℕ) → length xs ≡ n → length ys ≡ m → part (xs ++ ys) n m ≡ ys
+part-append-right xs ys n m e f = rw (drop-at xs ys n e) (take-all m ys (omega arith))

@@ -1,0 +1,33 @@
+-- Choosing by a test, and the first of several tests that fails.
+use mathlib.Core.Bool.{Bool, true, false, _&&_}
+use Prim.Native.Nat.{ℕ, zero, suc}
+use mathlib.Core.List.{List, [], _∷_}
+use lib.Dec.{leb}
+
+infixr 1 if_then_else_
+abbrev pub if_then_else_ : {A : Type 0} → Bool → A → A → A
+if_then_else_ true a b = a
+if_then_else_ false a b = b
+
+-- a test as a bit
+abbrev pub bit : Bool → ℕ
+bit true = 1
+bit false = 0
+
+-- low ≤ x ≤ high
+abbrev pub between : ℕ → ℕ → ℕ → Bool
+between low x high = leb low x && leb x high
+
+-- A test that has to hold, and the number given where it does not.
+abbrev pub Check : Type 0
+Check = Bool × ℕ
+
+-- The number of the first check that fails; 0 where none does.
+abbrev pub firstFailed : List Check → ℕ
+firstFailed [] = 0
+firstFailed (c ∷ cs) = if c .0 then firstFailed cs else c .1
+
+-- a for the number 0 (nothing failed), else b
+abbrev pub ifPassed : {A : Type 0} → ℕ → A → A → A
+ifPassed zero a b = a
+ifPassed (suc n) a b = b

@@ -1,0 +1,6 @@
+-- In reading order.
+pub mod Choice
+pub mod Numbers
+pub mod Parts
+pub mod Layout
+pub mod Bytes

@@ -1,0 +1,1 @@
+// Numbers and parts of byte runs: definitions and laws; see specs/.
