@@ -13,7 +13,7 @@ use Rattle.wire.specs.Bytes.{same}
 use Rattle.model.specs.Sizes.{sectorSize, nativeLimit, historySize, missing, powerOnTimer, bodySize, trailerSize, entrySize, entryLimit, badLength, badImage, otherDisk, imageFull}
 use Rattle.model.specs.Device.{idle, Feature, Settings, Thermal, Device}
 use Rattle.model.specs.Key.{highestState}
-use Rattle.model.specs.Temperature.{emptyHistory, emptyIndex, tableBytes}
+use Rattle.model.specs.Temperature.{emptyHistory, emptyIndex, tableHeadSize, tableBytes}
 use Rattle.model.specs.Fill.{nothingPending}
 
 -- ---- an entry
@@ -79,7 +79,7 @@ savedIn b =
       writeCache = record { state = get 2 b 18; persistent = hasBit 1 (get 1 b 24) };
       reordering = record { state = get 2 b 20; persistent = hasBit 2 (get 1 b 24) };
       logInterval = record { state = get 2 b 22; persistent = hasBit 4 (get 1 b 24) };
-      history = part b (headSize + 34) historySize;
+      history = part b (headSize + tableHeadSize) historySize;
       index = get 2 b (headSize + 32);
     }
 
@@ -110,8 +110,11 @@ abbrev pub previousPlace : ℕ → ℕ
 previousPlace k = if eqb k 1 then 0xFFFFFFFF else trailerPlace (k - 1)
 
 -- "Trailer: 544, the place of the previous trailer .., the entry number from 1 (4 bytes each), then the letters SCTE."
+abbrev pub trailerFields : ℕ → List Field
+trailerFields k = (0, 4, bodySize) ∷ (4, 4, previousPlace k) ∷ (8, 4, k) ∷ []
+
 unfoldable pub trailerBytes : ℕ → List ℕ
-trailerBytes k = form 12 ((0, 4, bodySize) ∷ (4, 4, previousPlace k) ∷ (8, 4, k) ∷ []) ++ tag
+trailerBytes k = form 12 (trailerFields k) ++ tag
 
 abbrev pub bodyAt : List ℕ → ℕ → List ℕ
 bodyAt image k = part image (trailerPlace k - bodySize) bodySize

@@ -7,7 +7,7 @@ use lib.Dec.{eqb}
 use Rattle.wire.specs.Choice.{if_then_else_}
 use Rattle.wire.specs.Numbers.{get}
 use Rattle.wire.specs.Parts.{part, padded}
-use Rattle.wire.specs.Layout.{form}
+use Rattle.wire.specs.Layout.{Field, form}
 use Rattle.model.specs.Sizes.{sectorSize, registersSize, mailboxSize}
 
 pub data Direction : Type 0 where
@@ -114,16 +114,12 @@ abbrev pub refusedWith : ℕ → Registers
 refusedWith code = record { status = 0x51; error = 0x04; value = code; sectors = 0 }
 
 -- "In a reply every byte not named is 0"
+abbrev pub registersFields : Registers → List Field
+registersFields r =
+    (2, 1, r .value % 256) ∷ (4, 1, r .value / 256) ∷ (6, 1, r .sectors) ∷ (12, 1, r .status) ∷ (13, 1, r .error) ∷ []
+
 unfoldable pub registersBytes : Registers → List ℕ
-registersBytes r =
-    form registersSize (
-    (2, 1, r .value % 256)
-    ∷ (4, 1, r .value / 256)
-    ∷ (6, 1, r .sectors)
-    ∷ (12, 1, r .status)
-    ∷ (13, 1, r .error)
-    ∷ []
-    )
+registersBytes r = form registersSize (registersFields r)
 
 -- ".. and the sector is zeros unless data is returned."
 unfoldable pub replyBytes : Registers → List ℕ → List ℕ

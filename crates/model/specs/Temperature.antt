@@ -7,7 +7,7 @@ use lib.Signed.{leZ}
 use lib.ListN.{set, replicate}
 use lib.Dec.{eqb, ltb}
 use Rattle.wire.specs.Choice.{if_then_else_}
-use Rattle.wire.specs.Layout.{form}
+use Rattle.wire.specs.Layout.{Field, form}
 use Rattle.model.specs.Sizes.{historySize, missing}
 use Rattle.model.specs.Device.{Thermal}
 
@@ -63,9 +63,8 @@ historyEmptied t =
 
 -- "Table (document 001, Table 19): 0002h; period 1; interval; bytes 6-9 = 3Ch, 46h, 05h, F6h; zeros;
 -- size 478 at 30; index at 32; history from 34."
-unfoldable pub tableBytes : ℕ → ℕ → List ℕ → List ℕ
-tableBytes interval index history =
-    form 34 (
+abbrev pub tableFields : ℕ → ℕ → List Field
+tableFields interval index =
     (0, 2, 0x0002)
     ∷ (2, 2, 1)
     ∷ (4, 2, interval)
@@ -76,5 +75,9 @@ tableBytes interval index history =
     ∷ (30, 2, historySize)
     ∷ (32, 2, index)
     ∷ []
-    )
-    ++ history
+
+abbrev pub tableHeadSize : ℕ
+tableHeadSize = 34
+
+unfoldable pub tableBytes : ℕ → ℕ → List ℕ → List ℕ
+tableBytes interval index history = form tableHeadSize (tableFields interval index) ++ history
