@@ -4,10 +4,10 @@ use mathlib.Core.Bool.{true, false}
 use Prim.Native.Nat.{ℕ, _*_}
 use mathlib.Core.List.{List, [], _∷_, map, _++_}
 use Rattle.wire.specs.Numbers.{le, get, put}
-use Rattle.wire.specs.Parts.{zeros, padded}
+use Rattle.wire.specs.Parts.{zeros, padded, repeated}
 use Rattle.wire.specs.Layout.{form}
 use Rattle.model.specs.Registers.{logPage, smartLog, requestOf, registersBytes, replyBytes}
-use Rattle.model.specs.Key.{keyChecks, actionOf, judgeKey, repeated}
+use Rattle.model.specs.Key.{keyChecks, actionOf, judgeKey}
 use Rattle.model.specs.Temperature.{newMaximum, sampled}
 use Rattle.model.specs.Fill.{interrupt, workCount}
 use Rattle.model.specs.Decide.{carryOut, decideKey, decide}

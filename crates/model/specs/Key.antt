@@ -1,11 +1,11 @@
 -- The key sector: its checks in the paper's order, and what an accepted key asks.
 use mathlib.Core.Bool.{Bool, true, false, not, _&&_, _||_}
 use Prim.Native.Nat.{ℕ, zero, suc, _+_, _-_, _*_, _<_}
-use mathlib.Core.List.{List, [], _∷_, _++_}
+use mathlib.Core.List.{List, [], _∷_}
 use lib.Dec.{eqb, leb, ltb}
 use Rattle.wire.specs.Choice.{if_then_else_, between, Check, firstFailed}
 use Rattle.wire.specs.Numbers.{get}
-use Rattle.wire.specs.Parts.{part}
+use Rattle.wire.specs.Parts.{part, repeated}
 use Rattle.model.specs.Device.{Device}
 use Rattle.model.specs.Registers.{Direction, read, write}
 
@@ -91,11 +91,6 @@ pub data Action : Type 0 where
   returnState : FeatureName → Action
   returnOption : FeatureName → Action
   sendTable : Action
-
--- n times l
-unfoldable pub repeated : ℕ → List ℕ → List ℕ
-repeated zero l = []
-repeated (suc n) l = l ++ repeated n l
 
 -- "bytes 20-23 repeated 128 times"
 abbrev pub patternSector : List ℕ → List ℕ

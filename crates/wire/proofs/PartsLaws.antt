@@ -1,13 +1,13 @@
 -- Laws of parts of runs of bytes.
 use mathlib.Core.Path.{_≡_, refl, sym, ap, _∙_}
 use Prim.Native.Nat.{ℕ, zero, suc, _+_, _-_, _*_, _≤_, _<_}
-use native.Mathlib.Nat.{suc-add, add-suc, zero-add, add-zero}
+use native.Mathlib.Nat.{suc-add, add-suc, zero-add, add-zero, mul-zero}
 use native.Mathlib.Omega.{arith}
-use mathlib.Core.List.{List, [], _∷_, _++_, append-assoc}
+use mathlib.Core.List.{List, [], _∷_, _++_, append-assoc, append-nil}
 use lib.ListN.{length, getD, set, take, drop, replicate, length-append, length-take, length-drop, length-replicate}
-use lib.Seq.{take-nil, take-at, drop-at, length-take-le, take-all, drop-set-lt, take-set-le, take-set-lt, drop-set-add, take-take, drop-drop, getD-take, getD-drop, sets, sets-eq, length-sets}
+use lib.Seq.{take-nil, take-at, drop-at, length-take-le, take-all, drop-set-lt, take-set-le, take-set-lt, drop-set-add, take-take, drop-drop, getD-take, getD-drop, sets, sets-eq, length-sets, drop-append-add}
 use Rattle.wire.specs.Numbers.{le, get, put}
-use Rattle.wire.specs.Parts.{part, zeros, padded}
+use Rattle.wire.specs.Parts.{part, zeros, padded, repeated}
 use Rattle.wire.proofs.NumbersLaws.{get-agree, length-le}
 
 -- ---- length, and one byte
@@ -33,7 +33,7 @@ getD-part l b n i h = getD-take n (drop b l) i 0 h ∙ getD-drop b l i 0
 
 -- ---- a part after a run of stores elsewhere, and just there
 
-drop-sets-after : (vs l : List ℕ) (i b : ℕ) → i + length vs ≤ b → drop b (sets l i vs) ≡ drop b l
+pub drop-sets-after : (vs l : List ℕ) (i b : ℕ) → i + length vs ≤ b → drop b (sets l i vs) ≡ drop b l
 drop-sets-after [] l i b h = refl
 drop-sets-after (a ∷ vs) l i b h = drop-sets-after vs (set l i a) (suc i) b (omega arith) ∙ drop-set-lt b l i a (omega arith)
 
@@ -93,3 +93,34 @@ part-append-left xs ys n e = take-at xs ys n e
 
 pub part-append-right : (xs ys : List ℕ) (n m : ℕ) → length xs ≡ n → length ys ≡ m → part (xs ++ ys) n m ≡ ys
 part-append-right xs ys n m e f = rw (drop-at xs ys n e) (take-all m ys (omega arith))
+
+pub sets-append : (xs ys l : List ℕ) (i : ℕ) → sets l i (xs ++ ys) ≡ sets (sets l i xs) (i + length xs) ys
+sets-append [] ys l i = rw (add-zero i)
+sets-append (x ∷ xs) ys l i = rw (add-suc i (length xs), ← suc-add i (length xs)) (sets-append xs ys (set l i x) (suc i))
+
+-- ---- the same run several times
+
+pub length-repeated : (n : ℕ) (l : List ℕ) → length (repeated n l) ≡ n * length l
+unfolding repeated
+length-repeated zero l = omega arith
+length-repeated (suc n) l = rw (length-append l (repeated n l), length-repeated n l) (omega arith)
+
+-- one more at the end is one more at the front
+pub repeated-snoc : (n : ℕ) (l : List ℕ) → repeated n l ++ l ≡ repeated (suc n) l
+unfolding repeated
+repeated-snoc zero l = sym (append-nil l)
+repeated-snoc (suc n) l = rw (append-assoc, repeated-snoc n l)
+
+-- each of the n runs is l
+pub part-repeated : (n : ℕ) (l : List ℕ) (size j : ℕ) → length l ≡ size → j < n → part (repeated n l) (size * j) size ≡ l
+unfolding repeated
+part-repeated zero l size j e h = absurd (omega arith)
+part-repeated (suc n) l size zero e h = rw (mul-zero size) (take-at l (repeated n l) size e)
+part-repeated (suc n) l size (suc j) e h =
+    ap (λ (b : ℕ). part (l ++ repeated n l) b size) (mul-suc' size j)
+    ∙ ap (λ (b : ℕ). part (l ++ repeated n l) (b + size * j) size) (sym e)
+    ∙ ap (take size) (drop-append-add l (repeated n l) (size * j))
+    ∙ part-repeated n l size j e (omega arith)
+  where
+    mul-suc' : (a b : ℕ) → a * suc b ≡ a + a * b
+    mul-suc' a b = omega arith

@@ -1,0 +1,180 @@
+-- Laws of the fill and the work step, in document 01's words: which places are written, how far it moves, what is counted.
+use mathlib.Core.Path.{_≡_, refl, sym, ap, ap₂, _∙_}
+use mathlib.Core.Bool.{Bool, true, false, _&&_}
+use Prim.Native.Nat.{ℕ, zero, suc, _+_, _-_, _*_, _≤_, _<_, min}
+use native.Mathlib.Omega.{arith}
+use native.Mathlib.Decide.{decLt}
+use native.Mathlib.Nat.{add-suc, add-zero}
+use mathlib.Core.List.{List, [], _∷_, _++_, append-nil}
+use lib.ListN.{length, getD, drop}
+use lib.Seq.{sets, length-sets}
+use lib.Dec.{eqb}
+use borrow.Author.Tests.{eq-eqb, ne-eqb}
+use Rattle.wire.specs.Choice.{if_then_else_}
+use Rattle.wire.specs.Parts.{part, repeated}
+use Rattle.wire.proofs.NumbersLaws.{getD-sets-before, getD-sets-after}
+use Rattle.wire.proofs.PartsLaws.{part-same, part-part, part-repeated, length-repeated, repeated-snoc, sets-append, drop-sets-after}
+use Rattle.model.specs.Sizes.{sectorSize}
+use Rattle.model.specs.Device.{Fill, idle, running, Device}
+use Rattle.model.specs.Update.{withFill, withInitialized}
+use Rattle.model.specs.Fill.{Volume, runningCode, writeSector, wholeDisk, advanced, fillStep, sectorStep, iterate, remaining, workCount}
+use Rattle.model.specs.Fill.{work as workVolume}
+use Rattle.model.specs.Machine.{Machine}
+use Rattle.model.specs.Step.{Step, work, Outcome, step, volume, worked}
+
+-- a volume of v, its fill moved to a place, with these bytes from the fill's sector next on
+moved : ℕ → ℕ → ℕ → Volume → ℕ → List ℕ → Volume
+moved first next end v place bytes =
+    record { device = advanced first place end (withInitialized false (v .device)); disk = sets (v .disk) (sectorSize * next) bytes }
+
+-- while sectors are left, the fill runs on
+advanced-runs : (first next end : ℕ) (d : Device) → next < end → advanced first next end d ≡ withFill (running first next end) runningCode d
+advanced-runs first next end d h = rw (ne-eqb next end (λ e. omega arith))
+
+-- a device that has moved to next moves on from there
+advanced-again : (first next end : ℕ) (d : Device)
+    → advanced first (suc next) end (withInitialized false (withFill (running first next end) runningCode (withInitialized false d)))
+    ≡ advanced first (suc next) end (withInitialized false d)
+advanced-again first next end d = go (eqb (suc next) end)
+  where
+    go : (b : Bool)
+        → (if b
+          then withInitialized (wholeDisk first end (d .visible)) (withFill idle 0x0000 (withInitialized false (withFill (running first next end) runningCode (withInitialized false d))))
+          else withFill (running first (suc next) end) runningCode (withInitialized false (withFill (running first next end) runningCode (withInitialized false d))))
+        ≡ (if b
+          then withInitialized (wholeDisk first end (d .visible)) (withFill idle 0x0000 (withInitialized false d))
+          else withFill (running first (suc next) end) runningCode (withInitialized false d))
+    go true = refl
+    go false = refl
+
+-- one sector more on the disk
+disk-again : (disk sector : List ℕ) (next k : ℕ) → length sector ≡ sectorSize
+    → sets (sets disk (sectorSize * next) (repeated k sector)) (sectorSize * (next + k)) sector ≡ sets disk (sectorSize * next) (repeated (suc k) sector)
+disk-again disk sector next k h =
+    ap (λ (i : ℕ). sets (sets disk (sectorSize * next) (repeated k sector)) i sector) place
+    ∙ sym (sets-append (repeated k sector) sector disk (sectorSize * next))
+    ∙ ap (sets disk (sectorSize * next)) (repeated-snoc k sector)
+  where
+    place : sectorSize * (next + k) ≡ sectorSize * next + length (repeated k sector)
+    place = rw (length-repeated k sector, h) (omega arith)
+
+module _ (first next end : ℕ) (sector : List ℕ) (v : Volume) (runs : v .device .command .fill ≡ running first next end) (whole : length sector ≡ sectorSize) where
+  -- one sector, from the start
+  first-sector : sectorStep sector v ≡ moved first next end v (next + 1) (repeated 1 sector)
+  unfolding sectorStep writeSector repeated moved
+  first-sector = ap (λ (f : Fill). fillStep f sector v) runs ∙ ap₂ (moved first next end v) (omega arith) (sym (append-nil sector))
+
+  -- one sector, from where the fill still runs
+  next-sector : (k : ℕ) → next + k < end → sectorStep sector (moved first next end v (next + k) (repeated k sector)) ≡ moved first next end v (next + suc k) (repeated (suc k) sector)
+  unfolding sectorStep writeSector moved
+  next-sector k h =
+      rw (advanced-runs first (next + k) end (withInitialized false (v .device)) h, add-suc next k)
+      (λ i. record { device = advanced-again first (next + k) end (v .device) i; disk = disk-again (v .disk) sector next k whole i })
+
+  -- "writes the fill's sector to the k places from next on and moves next by k"
+  sectors : (k : ℕ) → next + suc k ≤ end → iterate (suc k) (sectorStep sector) v ≡ moved first next end v (next + suc k) (repeated (suc k) sector)
+  sectors zero h = first-sector
+  sectors (suc k) h = ap (sectorStep sector) (sectors k (omega arith)) ∙ next-sector (suc k) (omega arith)
+
+  -- k steps in all, from none on
+  stepped : (k : ℕ) → 0 < k → next + k ≤ end → iterate k (sectorStep sector) v ≡ moved first next end v (next + k) (repeated k sector)
+  stepped zero p h = absurd (omega arith)
+  stepped (suc k) p h = sectors k h
+
+  steps-disk : (k : ℕ) → next + k ≤ end → iterate k (sectorStep sector) v .disk ≡ sets (v .disk) (sectorSize * next) (repeated k sector)
+  unfolding moved repeated
+  steps-disk zero h = refl
+  steps-disk (suc k) h = ap (λ (w : Volume). w .disk) (sectors k h)
+
+-- ---- the work step
+
+-- how far a fill has come: to next, or to its end where it is over
+abbrev pub position : ℕ → Fill → ℕ
+position end idle = end
+position end (running first next e) = next
+
+-- a budget or a fill that allows no sector leaves everything as it is
+work-still : (n : ℕ) (M : Machine) → workCount n (M .device .command .fill) ≡ 0
+    → (step (work n) M .seen .count ≡ 0) × (step (work n) M .state .device ≡ M .device) × (step (work n) M .state .disk ≡ M .disk)
+unfolding step worked workVolume
+work-still n M e = rw e (refl, refl, refl)
+
+-- "None running, or n = 0: reports 0"
+pub work-idle : (n : ℕ) (M : Machine) → M .device .command .fill ≡ idle
+    → (step (work n) M .seen .count ≡ 0) × (step (work n) M .state .device ≡ M .device) × (step (work n) M .state .disk ≡ M .disk)
+work-idle n M e = work-still n M (unfold workCount in (rw e (omega arith)))
+
+pub work-zero : (M : Machine)
+    → (step (work 0) M .seen .count ≡ 0) × (step (work 0) M .state .device ≡ M .device) × (step (work 0) M .state .disk ≡ M .disk)
+work-zero M = work-still 0 M (unfold workCount in (omega arith))
+
+-- each place holds the sector
+place-holds : (disk sector : List ℕ) (next k j : ℕ) → length sector ≡ sectorSize → j < k → sectorSize * (next + k) ≤ length disk
+    → part (sets disk (sectorSize * next) (repeated k sector)) (sectorSize * (next + j)) sectorSize ≡ sector
+place-holds disk sector next k j whole h fits =
+    let all = sets disk (sectorSize * next) (repeated k sector) in
+    let size : length (repeated k sector) ≡ k * sectorSize = rw (length-repeated k sector, whole) in
+    let at : sectorSize * (next + j) ≡ sectorSize * next + sectorSize * j = omega arith in
+    ap (λ (b : ℕ). part all b sectorSize) at
+    ∙ sym (part-part all (sectorSize * next) (k * sectorSize) (sectorSize * j) sectorSize (omega arith))
+    ∙ ap (λ (l : List ℕ). part l (sectorSize * j) sectorSize) (part-same (repeated k sector) disk (sectorSize * next) (k * sectorSize) size (omega arith))
+    ∙ part-repeated k sector sectorSize j whole h
+
+module _ (n : ℕ) (M : Machine) (first next end : ℕ) (runs : M .device .command .fill ≡ running first next end) (order : next < end) (whole : length (M .sector) ≡ sectorSize) where
+  abbrev after : Outcome Machine
+  after = step (work n) M
+
+  -- "k is the lesser of n and end - next"
+  abbrev k : ℕ
+  k = min n (end - next)
+
+  pub work-count : after .seen .count ≡ k
+  unfolding step workCount
+  work-count = rw runs
+
+  counted : workCount n (M .device .command .fill) ≡ k
+  unfolding workCount
+  counted = rw runs
+
+  -- "writes the fill's sector to the k places from next on"; all else stays
+  pub work-disk : after .state .disk ≡ sets (M .disk) (sectorSize * next) (repeated k (M .sector))
+  unfolding step worked workVolume
+  work-disk = ap (λ (j : ℕ). iterate j (sectorStep (M .sector)) (volume M) .disk) counted ∙ steps-disk first next end (M .sector) (volume M) runs whole k (omega arith)
+
+  -- each of the k places holds the sector
+  pub work-places : (j : ℕ) → j < k → sectorSize * end ≤ length (M .disk) → part (after .state .disk) (sectorSize * (next + j)) sectorSize ≡ M .sector
+  work-places j h fits = rw work-disk (place-holds (M .disk) (M .sector) next k j whole h (omega arith))
+
+  -- every other byte stays
+  pub work-keeps-below : (i : ℕ) → i < sectorSize * next → getD (after .state .disk) i 0 ≡ getD (M .disk) i 0
+  work-keeps-below i h = rw work-disk (getD-sets-before (repeated k (M .sector)) (M .disk) (sectorSize * next) i h)
+
+  pub work-keeps-above : (i : ℕ) → sectorSize * (next + k) ≤ i → getD (after .state .disk) i 0 ≡ getD (M .disk) i 0
+  work-keeps-above i h =
+      rw work-disk
+      (getD-sets-after (repeated k (M .sector)) (M .disk) (sectorSize * next) i (rw (length-repeated k (M .sector), whole) (omega arith)))
+
+  device-after : 0 < k → after .state .device ≡ advanced first (next + k) end (withInitialized false (M .device))
+  unfolding step worked workVolume moved
+  device-after h =
+      ap (λ (j : ℕ). iterate j (sectorStep (M .sector)) (volume M) .device) counted
+      ∙ ap (λ (v : Volume). v .device) (stepped first next end (M .sector) (volume M) runs whole k h (omega arith))
+
+  -- ".. and moves next by k"; a sector written clears the flag
+  pub work-moves : 0 < k → next + k < end → after .state .device ≡ withFill (running first (next + k) end) runningCode (withInitialized false (M .device))
+  work-moves p h = device-after p ∙ advanced-runs first (next + k) end (withInitialized false (M .device)) h
+
+  -- "at end the fill is over": "its last sector stores 0000h"; the flag is "set when a fill from 0 to the last user LBA ends"
+  pub work-ends : end ≤ next + n → after .state .device ≡ withInitialized (wholeDisk first end (M .device .visible)) (withFill idle 0x0000 (M .device))
+  work-ends h =
+      device-after (omega arith)
+      ∙ rw (eq-eqb (next + k) end (omega arith))
+
+  -- "A work that invents its count: it equals the sectors by which the fill moved."
+  pub work-count-moved : after .seen .count ≡ position end (after .state .device .command .fill) - next
+  work-count-moved = work-count ∙ go (decLt 0 k) (decLt (next + k) end)
+    where
+      go : Dec (0 < k) → Dec (next + k < end) → k ≡ position end (after .state .device .command .fill) - next
+      go (yes p) (yes q) = rw (work-moves p q) (omega arith)
+      go (yes p) (no q) = rw (work-ends (omega arith)) (omega arith)
+      go (no p) q = rw (work-still n M (counted ∙ omega arith) .1, runs) (omega arith)
