@@ -1,3 +1,5 @@
 -- Laws of the model machine, in reading order.
 pub mod Starred
+pub mod KeyLaws
+pub mod FormatLaws
 pub mod WorkLaws

@@ -19,7 +19,7 @@ use Rattle.model.specs.Examples.{Example, evaluate, starred, keyMailbox,
 
 -- THEOREM: every starred example comes out as 01 says.
 pub starred-hold : map (λ (e : Example × List ℕ). evaluate (e .0)) starred ≡ map (λ (e : Example × List ℕ). e .1) starred
-unfolding evaluate le get put logPage smartLog requestOf keyChecks actionOf judgeKey repeated newMaximum sampled interrupt workCount carryOut decideKey decide sample powerOn
+unfolding evaluate le get put form logPage smartLog requestOf keyChecks actionOf judgeKey repeated newMaximum sampled interrupt workCount carryOut decideKey decide sample powerOn
 starred-hold = refl
 
 -- "Start 64, Count 0: 0002h", from the mailbox through take, serve and give to the mailbox of the reply
@@ -29,5 +29,5 @@ pub end-to-end : map (λ (o : Outcome Machine). o .seen)
     ∷ answered 0
     ∷ answeredMailbox 0 (form 528 ((2, 1, 0x02) ∷ (12, 1, 0x51) ∷ (13, 1, 0x04) ∷ []))
     ∷ []
-unfolding le get put padded logPage smartLog requestOf registersBytes replyBytes keyChecks actionOf judgeKey interrupt carryOut decideKey decide powerOn restored step served serveDecided poweredOn
+unfolding le get put form padded logPage smartLog requestOf registersBytes replyBytes keyChecks actionOf judgeKey interrupt carryOut decideKey decide powerOn restored step served serveDecided poweredOn
 end-to-end = refl

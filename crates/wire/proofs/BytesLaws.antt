@@ -10,7 +10,7 @@ use lib.Seq.{sets}
 use lib.Dec.{eqb}
 use borrow.Author.Tests.{eqb-true, eq-eqb}
 use Rattle.wire.specs.Numbers.{le, get, put}
-use Rattle.wire.specs.Parts.{part, zeros, padded}
+use Rattle.wire.specs.Parts.{part, zeros, padded, repeated}
 use Rattle.wire.specs.Layout.{Field, stores, form}
 use Rattle.wire.specs.Bytes.{Bytes, same}
 use Rattle.wire.proofs.ChoiceLaws.{and-left, and-right}
@@ -62,6 +62,11 @@ pub bytes-padded : (n : ℕ) (l : List ℕ) → Bytes l → Bytes (padded n l)
 unfolding padded
 bytes-padded n l b = bytes-append l (zeros (n - length l)) b (bytes-zeros (n - length l))
 
+pub bytes-repeated : (n : ℕ) (l : List ℕ) → Bytes l → Bytes (repeated n l)
+unfolding repeated
+bytes-repeated zero l b = bytes-nil
+bytes-repeated (suc n) l b = bytes-append l (repeated n l) b (bytes-repeated n l b)
+
 pub bytes-le : (k v : ℕ) → Bytes (le k v)
 unfolding le
 bytes-le zero v = bytes-nil
@@ -73,6 +78,7 @@ bytes-stores [] l b = b
 bytes-stores (f ∷ fs) l b = bytes-stores fs (put (f .1) l (f .0) (f .2)) (bytes-sets (le (f .1) (f .2)) l (f .0) b (bytes-le (f .1) (f .2)))
 
 pub bytes-form : (n : ℕ) (fs : List Field) → Bytes (form n fs)
+unfolding form
 bytes-form n fs = bytes-stores fs (zeros n) (bytes-zeros n)
 
 pub get-fits : (k : ℕ) (l : List ℕ) (at : ℕ) → Bytes l → get k l at < 256 ^ k

@@ -19,6 +19,7 @@ length-stores [] s = refl
 length-stores (f ∷ fs) s = length-stores fs (put (f .1) s (f .0) (f .2)) ∙ length-put (f .1) s (f .0) (f .2)
 
 pub length-form : (n : ℕ) (fs : List Field) → length (form n fs) ≡ n
+unfolding form
 length-form n fs = length-stores fs (zeros n) ∙ length-zeros n
 
 -- the last field ends within the n bytes
@@ -52,6 +53,7 @@ reads-stores (f ∷ fs) from n s o h fit =
 
 -- every field of a form is read back
 pub reads-form : (n : ℕ) (fs : List Field) → ordered 0 n fs ≡ true → Fit fs → Reads fs (form n fs)
+unfolding form
 reads-form n fs o f = reads-stores fs 0 n (zeros n) o (rw (length-zeros n) (omega arith)) f
 
 -- every other byte stays
@@ -70,4 +72,5 @@ stores-outside (f ∷ fs) s i h =
 
 -- .. and in a form it is 0
 pub form-outside : (n : ℕ) (fs : List Field) (i : ℕ) → outside fs i ≡ true → getD (form n fs) i 0 ≡ 0
+unfolding form
 form-outside n fs i h = stores-outside fs (zeros n) i h ∙ getD-zeros n i

@@ -17,7 +17,7 @@ stores [] s = s
 stores (f ∷ fs) s = stores fs (put (f .1) s (f .0) (f .2))
 
 -- n bytes that hold the fields, and 0 everywhere else
-abbrev pub form : ℕ → List Field → List ℕ
+unfoldable pub form : ℕ → List Field → List ℕ
 form n fs = stores fs (zeros n)
 
 -- The fields stand one behind the other, from a place on, within n bytes.

@@ -1,0 +1,222 @@
+-- Laws of the formats: what stands at each place that document 01 names, and 0 everywhere else.
+use mathlib.Core.Path.{_≡_, refl, sym, ap, _∙_}
+use mathlib.Core.Bool.{Bool, true, false}
+use Prim.Native.Nat.{ℕ, zero, suc, _+_, _-_, _/_, _%_, _^_, _≤_, _<_}
+use native.Mathlib.Omega.{arith}
+use mathlib.Core.List.{List, [], _∷_, _++_, append-nil, append-assoc}
+use lib.ListN.{length, getD, take, length-append, List·getD-append}
+use lib.Seq.{take-at, drop-at}
+use Rattle.wire.specs.Choice.{bit}
+use Rattle.wire.specs.Numbers.{get}
+use Rattle.wire.specs.Parts.{part, zeros, padded}
+use Rattle.wire.specs.Layout.{Field, form, ordered, Fit, Reads, outside}
+use Rattle.wire.specs.Bytes.{Bytes}
+use Rattle.wire.proofs.ChoiceLaws.{bit-small}
+use Rattle.wire.proofs.NumbersLaws.{get-append-left}
+use Rattle.wire.proofs.PartsLaws.{part-append-right, length-padded, length-zeros}
+use Rattle.wire.proofs.LayoutLaws.{length-form, reads-form, form-outside}
+use Rattle.wire.proofs.BytesLaws.{bytes-append, bytes-form, bytes-padded}
+use Rattle.model.specs.Sizes.{sectorSize, registersSize, mailboxSize, historySize}
+use Rattle.model.specs.Device.{Fill, idle, running, Device}
+use Rattle.model.specs.Status.{driveState, currentLba, statusFields, statusSector}
+use Rattle.model.specs.Temperature.{tableFields, tableHeadSize, tableBytes}
+use Rattle.model.specs.Registers.{Registers, registersFields, registersBytes, replyBytes}
+use Rattle.model.specs.Valid.{FillValid, Valid, Sized}
+
+-- ---- status sector
+
+abbrev statusPlaces : List Field
+statusPlaces =
+    (0, 2, 0)
+    ∷ (2, 2, 0)
+    ∷ (4, 2, 0)
+    ∷ (6, 4, 0)
+    ∷ (10, 1, 0)
+    ∷ (14, 2, 0)
+    ∷ (16, 2, 0)
+    ∷ (18, 2, 0)
+    ∷ (40, 8, 0)
+    ∷ (200, 1, 0)
+    ∷ (202, 1, 0)
+    ∷ (204, 1, 0)
+    ∷ []
+
+-- "format 0002h; version 0001h at 2; spec 0001h at 4; flag bit 0 at 6; state at 10 (0, or 5 with a fill); code 14; action 16;
+-- function 18; LBA 40-47 the next sector, 0 with no fill; temperatures at 200 (now), 202 (this power cycle), 204 (life)."
+pub record StatusAt (d : Device) (s : List ℕ) : Type 0 where
+  pub format : get 2 s 0 ≡ 0x0002
+  pub version : get 2 s 2 ≡ 0x0001
+  pub specification : get 2 s 4 ≡ 0x0001
+  pub flags : get 4 s 6 ≡ bit (d .initialized)
+  pub state : get 1 s 10 ≡ driveState (d .command .fill)
+  pub code : get 2 s 14 ≡ d .command .code
+  pub action : get 2 s 16 ≡ d .command .action
+  pub function : get 2 s 18 ≡ d .command .function
+  pub lba : get 8 s 40 ≡ currentLba (d .command .fill)
+  pub now : get 1 s 200 ≡ d .thermal .now
+  pub cycle : get 1 s 202 ≡ d .thermal .cycleMaximum
+  pub life : get 1 s 204 ≡ d .thermal .lifeMaximum
+  -- "All else 0."
+  pub rest : (i : ℕ) → outside statusPlaces i ≡ true → getD s i 0 ≡ 0
+  pub size : length s ≡ sectorSize
+
+next-fits : (d : Device) (f : Fill) → FillValid (d .visible) f → d .visible ≤ 65536 → currentLba f < 256 ^ 8
+next-fits d idle v h = omega arith
+next-fits d (running first next end) v h = omega arith
+
+state-fits : (f : Fill) → driveState f < 256 ^ 1
+state-fits idle = omega arith
+state-fits (running first next end) = omega arith
+
+pub status-at : (d : Device) → Valid d → StatusAt d (statusSector d)
+unfolding statusSector
+status-at d v =
+    let c = v .commandValid .words in
+    let t = v .thermalValid .bytes in
+    let fit : Fit (statusFields d) =
+        (omega arith, (omega arith, (omega arith, (omega (arith, bit-small (d .initialized)), (state-fits (d .command .fill),
+        (c .0, (c .1, (c .2, (next-fits d (d .command .fill) (v .commandValid .fillValid) (omega (arith, v .sizes .1, v .sizes .2)),
+        (t .0, (t .1, (t .2, tt)))))))))))) in
+    let r = reads-form sectorSize (statusFields d) refl fit in
+    record {
+      format = r .0;
+      version = r .1 .0;
+      specification = r .1 .1 .0;
+      flags = r .1 .1 .1 .0;
+      state = r .1 .1 .1 .1 .0;
+      code = r .1 .1 .1 .1 .1 .0;
+      action = r .1 .1 .1 .1 .1 .1 .0;
+      function = r .1 .1 .1 .1 .1 .1 .1 .0;
+      lba = r .1 .1 .1 .1 .1 .1 .1 .1 .0;
+      now = r .1 .1 .1 .1 .1 .1 .1 .1 .1 .0;
+      cycle = r .1 .1 .1 .1 .1 .1 .1 .1 .1 .1 .0;
+      life = r .1 .1 .1 .1 .1 .1 .1 .1 .1 .1 .1 .0;
+      rest = form-outside sectorSize (statusFields d);
+      size = length-form sectorSize (statusFields d);
+    }
+
+-- ---- temperature table
+
+abbrev tablePlaces : List Field
+tablePlaces = (0, 2, 0) ∷ (2, 2, 0) ∷ (4, 2, 0) ∷ (6, 1, 0) ∷ (7, 1, 0) ∷ (8, 1, 0) ∷ (9, 1, 0) ∷ (30, 2, 0) ∷ (32, 2, 0) ∷ []
+
+-- "0002h; period 1; interval; bytes 6-9 = 3Ch, 46h, 05h, F6h; zeros; size 478 at 30; index at 32; history from 34"
+pub record TableAt (interval index : ℕ) (history s : List ℕ) : Type 0 where
+  pub format : get 2 s 0 ≡ 0x0002
+  pub period : get 2 s 2 ≡ 1
+  pub intervalAt : get 2 s 4 ≡ interval
+  pub limits : (get 1 s 6 ≡ 0x3C) × (get 1 s 7 ≡ 0x46) × (get 1 s 8 ≡ 0x05) × (get 1 s 9 ≡ 0xF6)
+  pub zero : (i : ℕ) → i < 34 → outside tablePlaces i ≡ true → getD s i 0 ≡ 0
+  pub sizeAt : get 2 s 30 ≡ 478
+  pub indexAt : get 2 s 32 ≡ index
+  pub historyAt : part s 34 478 ≡ history
+  pub size : length s ≡ sectorSize
+
+pub table-at : (interval index : ℕ) (history : List ℕ) → interval < 256 ^ 2 → index < 256 ^ 2 → length history ≡ historySize
+    → TableAt interval index history (tableBytes interval index history)
+unfolding tableBytes
+table-at interval index history i x h =
+    let fit : Fit (tableFields interval index) =
+        (omega arith, (omega arith, (i, (omega arith, (omega arith, (omega arith, (omega arith, (omega arith, (x, tt))))))))) in
+    let r = reads-form tableHeadSize (tableFields interval index) refl fit in
+    let size = length-form tableHeadSize (tableFields interval index) in
+    let front : (k at : ℕ) → at + k ≤ 34 → get k (form tableHeadSize (tableFields interval index) ++ history) at ≡ get k (form tableHeadSize (tableFields interval index)) at =
+        λ k at b. get-append-left k (form tableHeadSize (tableFields interval index)) history at (rw size b) in
+    record {
+      format = front 2 0 (omega arith) ∙ r .0;
+      period = front 2 2 (omega arith) ∙ r .1 .0;
+      intervalAt = front 2 4 (omega arith) ∙ r .1 .1 .0;
+      limits =
+          (
+            front 1 6 (omega arith) ∙ r .1 .1 .1 .0,
+            front 1 7 (omega arith) ∙ r .1 .1 .1 .1 .0,
+            front 1 8 (omega arith) ∙ r .1 .1 .1 .1 .1 .0,
+            front 1 9 (omega arith) ∙ r .1 .1 .1 .1 .1 .1 .0,
+          );
+      zero = λ j b o.
+          List·getD-append (form tableHeadSize (tableFields interval index)) history 0 j (rw size b)
+          ∙ form-outside tableHeadSize (tableFields interval index) j o;
+      sizeAt = front 2 30 (omega arith) ∙ r .1 .1 .1 .1 .1 .1 .1 .0;
+      indexAt = front 2 32 (omega arith) ∙ r .1 .1 .1 .1 .1 .1 .1 .1 .0;
+      historyAt = part-append-right (form tableHeadSize (tableFields interval index)) history 34 478 size h;
+      size = rw (length-append, size, h);
+    }
+
+-- ---- replies
+
+abbrev registersPlaces : List Field
+registersPlaces = (2, 1, 0) ∷ (4, 1, 0) ∷ (6, 1, 0) ∷ (12, 1, 0) ∷ (13, 1, 0) ∷ []
+
+-- "Sector Count (low) and LBA Low (high)", LBA Mid, "12 Status, 13 Error"; "every byte not named is 0"
+pub record ReplyAt (r : Registers) (m : List ℕ) : Type 0 where
+  pub count : get 1 m 2 ≡ r .value % 256
+  pub low : get 1 m 4 ≡ r .value / 256
+  pub mid : get 1 m 6 ≡ r .sectors
+  pub status : get 1 m 12 ≡ r .status
+  pub error : get 1 m 13 ≡ r .error
+  pub zero : (i : ℕ) → i < 16 → outside registersPlaces i ≡ true → getD m i 0 ≡ 0
+  pub size : length m ≡ mailboxSize
+
+-- the registers' values fit their bytes
+pub record RegistersFit (r : Registers) : Type 0 where
+  pub value : r .value < 256 ^ 2
+  pub sectors : r .sectors < 256
+  pub status : r .status < 256
+  pub error : r .error < 256
+
+-- a reply is the registers, the data, and zeros
+reply-split : (r : Registers) (s : List ℕ)
+    → replyBytes r s ≡ registersBytes r ++ (s ++ zeros (mailboxSize - length (registersBytes r ++ s)))
+unfolding replyBytes padded
+reply-split r s = append-assoc (registersBytes r) s (zeros (mailboxSize - length (registersBytes r ++ s)))
+
+length-registers : (r : Registers) → length (registersBytes r) ≡ registersSize
+unfolding registersBytes
+length-registers r = length-form registersSize (registersFields r)
+
+pub reply-length : (r : Registers) (s : List ℕ) → length s ≤ sectorSize → length (replyBytes r s) ≡ mailboxSize
+unfolding replyBytes
+reply-length r s h = length-padded mailboxSize (registersBytes r ++ s) (rw (length-append, length-registers r) (omega arith))
+
+pub reply-at : (r : Registers) (s : List ℕ) → RegistersFit r → length s ≤ sectorSize → ReplyAt r (replyBytes r s)
+unfolding registersBytes
+reply-at r s f h =
+    let fit : Fit (registersFields r) = (omega arith, (omega (arith, f .value), (f .sectors, (f .status, (f .error, tt))))) in
+    let reads = reads-form registersSize (registersFields r) refl fit in
+    let behind = s ++ zeros (mailboxSize - length (registersBytes r ++ s)) in
+    let front : (at : ℕ) → at + 1 ≤ 16 → get 1 (replyBytes r s) at ≡ get 1 (registersBytes r) at =
+        λ at b. ap (λ (m : List ℕ). get 1 m at) (reply-split r s) ∙ get-append-left 1 (registersBytes r) behind at (rw (length-registers r) b) in
+    record {
+      count = front 2 (omega arith) ∙ reads .0;
+      low = front 4 (omega arith) ∙ reads .1 .0;
+      mid = front 6 (omega arith) ∙ reads .1 .1 .0;
+      status = front 12 (omega arith) ∙ reads .1 .1 .1 .0;
+      error = front 13 (omega arith) ∙ reads .1 .1 .1 .1 .0;
+      zero = λ i b o.
+          ap (λ (m : List ℕ). getD m i 0) (reply-split r s)
+          ∙ List·getD-append (registersBytes r) behind 0 i (rw (length-registers r) b)
+          ∙ form-outside registersSize (registersFields r) i o;
+      size = reply-length r s h;
+    }
+
+-- the sector of a reply is the data returned ..
+pub reply-data : (r : Registers) (s : List ℕ) → length s ≡ sectorSize → part (replyBytes r s) registersSize sectorSize ≡ s
+reply-data r s h =
+    ap (λ (m : List ℕ). part m registersSize sectorSize) (reply-split r s)
+    ∙ ap (take sectorSize) (drop-at (registersBytes r) (s ++ zeros (mailboxSize - length (registersBytes r ++ s))) registersSize (length-registers r))
+    ∙ take-at s (zeros (mailboxSize - length (registersBytes r ++ s))) sectorSize h
+
+-- .. and "zeros unless data is returned"
+pub reply-no-data : (r : Registers) → part (replyBytes r []) registersSize sectorSize ≡ zeros sectorSize
+reply-no-data r =
+    ap (λ (m : List ℕ). part m registersSize sectorSize) (reply-split r [])
+    ∙ ap (λ (n : ℕ). part (registersBytes r ++ zeros (mailboxSize - n)) registersSize sectorSize) (ap length (append-nil (registersBytes r)) ∙ length-registers r)
+    ∙ part-append-right (registersBytes r) (zeros sectorSize) registersSize sectorSize (length-registers r) (length-zeros sectorSize)
+
+pub reply-sized : (r : Registers) (s : List ℕ) → length s ≤ sectorSize → Bytes s → Sized mailboxSize (replyBytes r s)
+unfolding replyBytes registersBytes
+reply-sized r s h b =
+    record {
+      size = reply-length r s h;
+      bytes = bytes-padded mailboxSize (registersBytes r ++ s) (bytes-append (registersBytes r) s (bytes-form registersSize (registersFields r)) b);
+    }

@@ -1,0 +1,207 @@
+-- Laws of the key sector, in document 01's words: which row decides, and what an accepted fill, timer or feature is.
+use mathlib.Core.Path.{_≡_, refl, sym, ap, _∙_}
+use mathlib.Core.Bool.{Bool, true, false, not, _&&_, _||_}
+use mathlib.Core.Logic.{_⊎_, inl, inr}
+use Prim.Native.Nat.{ℕ, zero, suc, _+_, _-_, _*_, _/_, _%_, _^_, _≤_, _<_}
+use native.Mathlib.Omega.{arith}
+use native.Mathlib.Decide.{decLt}
+use mathlib.Core.List.{List, [], _∷_, _++_}
+use lib.ListN.{length, getD, length-append}
+use lib.Dec.{eqb, leb, ltb}
+use borrow.Author.Tests.{eqb-true, eqb-false, eq-eqb, ne-eqb, leb-true, not-true}
+use Rattle.wire.specs.Choice.{if_then_else_, between, Check, firstFailed}
+use Rattle.wire.specs.Numbers.{get}
+use Rattle.wire.specs.Parts.{part, repeated}
+use Rattle.wire.specs.Bytes.{Bytes}
+use Rattle.wire.proofs.ChoiceLaws.{and-left, and-right, between-true, between-within, AllPass, Numbered, all-pass, first-decides}
+use Rattle.wire.proofs.PartsLaws.{getD-part, part-repeated, length-repeated, length-part}
+use Rattle.wire.proofs.BytesLaws.{bytes-part, bytes-repeated, get-fits}
+use Rattle.model.specs.Sizes.{sectorSize}
+use Rattle.model.specs.Device.{Device}
+use Rattle.model.specs.Registers.{Direction, read, write}
+use Rattle.model.specs.Key.{word, start, count, lastLba, fillChecks, timerChecks, highestState, featureChecks, tableChecks, actionChecks, keyChecks, FeatureName, writeCache, reordering, logInterval, Action, fillPattern, fillSector, setTimer, returnTimer, setFeature, returnState, returnOption, sendTable, patternSector, fillEnd, timerName, featureName, fillAction, timerAction, featureAction, actionOf, Verdict, accepted, rejected, verdict, judgeKey}
+use Rattle.model.specs.Valid.{TimerValid, Sized}
+
+-- ---- which row decides
+
+-- every code of the key table is between 1 and 12h
+pub key-codes : (d : Device) (k : List ℕ) → Numbered 0x12 (keyChecks d k)
+unfolding keyChecks
+key-codes d k = (omega arith, omega arith, (omega arith, omega arith, go (eqb (word k 0) 2) (eqb (word k 0) 3) (eqb (word k 0) 4)))
+  where
+    timer-code : (b : Bool) → (0 < (if b then 0x0006 else 0x0007)) × ((if b then 0x0006 else 0x0007) ≤ 0x12)
+    timer-code true = (omega arith, omega arith)
+    timer-code false = (omega arith, omega arith)
+
+    go : (a b c : Bool)
+        → Numbered 0x12 (if a then fillChecks (d .visible) k else if b then timerChecks k else if c then featureChecks k else tableChecks k)
+    go true b c = (omega arith, omega arith, (omega arith, omega arith, (omega arith, omega arith, tt)))
+    go false true c =
+        let t = timer-code (eqb (word k 2) 1) in
+        (omega arith, omega arith, (omega arith, omega arith, (t .0, t .1, tt)))
+    go false false true = (omega arith, omega arith, (omega arith, omega arith, (omega arith, omega arith, (omega arith, omega arith, tt))))
+    go false false false = (omega arith, omega arith, (omega arith, omega arith, tt))
+
+-- "Checks, in order": the first row that fails gives the code.
+pub key-rejected : (d : Device) (k : List ℕ) (before : List Check) (code : ℕ) (behind : List Check)
+    → keyChecks d k ≡ before ++ (false, suc code) ∷ behind → AllPass before → judgeKey d k ≡ rejected (suc code)
+unfolding judgeKey
+key-rejected d k before code behind e p = ap (λ (cs : List Check). verdict (firstFailed cs) (actionOf (d .visible) k)) e ∙ rw (first-decides before (suc code) behind p)
+
+verdict-accepted : (n : ℕ) (a b : Action) → verdict n a ≡ accepted b → (n ≡ 0) × (a ≡ b)
+verdict-accepted zero a b e = (refl, cc)
+verdict-accepted (suc n) a b e = absurd (let z : _≡_ {A = ℕ} 0 1 = cc in omega arith)
+
+-- a key is accepted where every row holds, and then asks what its words say
+pub key-accepted : (d : Device) (k : List ℕ) (a : Action) → judgeKey d k ≡ accepted a → AllPass (keyChecks d k) × (a ≡ actionOf (d .visible) k)
+unfolding judgeKey
+key-accepted d k a e =
+    let w = verdict-accepted (firstFailed (keyChecks d k)) (actionOf (d .visible) k) a e in
+    (all-pass 0x12 (keyChecks d k) (key-codes d k) (w .0), sym (w .1))
+
+-- a code is never FFFFh
+pub verdict-rejected : (n : ℕ) (a : Action) (code : ℕ) → verdict n a ≡ rejected code → n ≡ code
+verdict-rejected zero a code e = cc
+verdict-rejected (suc n) a code e = cc
+
+-- ---- fills
+
+-- "Start 0 .. Count": an accepted fill's sum, as whole numbers, is at most the last user LBA
+pub accepted-fill-sum : (d : Device) (k : List ℕ) (a : Action) → word k 0 ≡ 2 → judgeKey d k ≡ accepted a → start k + count k ≤ d .visible - 1
+unfolding keyChecks
+accepted-fill-sum d k a two e =
+    let rows : AllPass (fillChecks (d .visible) k) = rw (eq-eqb (word k 0) 2 two) at (key-accepted d k a e .0 .1 .1) in
+    leb-true (start k + count k) (lastLba (d .visible)) (rows .1 .1 .0)
+
+-- the fill's first sector is Start; "Count 0 means up to the last user LBA"
+pub accepted-pattern : (d : Device) (k : List ℕ) (a : Action) → word k 0 ≡ 2 → word k 1 ≡ 1 → judgeKey d k ≡ accepted a
+    → a ≡ fillPattern (start k) (fillEnd (d .visible) k) (patternSector k)
+unfolding actionOf
+accepted-pattern d k a two one e = key-accepted d k a e .1 ∙ rw (eq-eqb (word k 0) 2 two, eq-eqb (word k 1) 1 one)
+
+pub accepted-sector : (d : Device) (k : List ℕ) (a : Action) → word k 0 ≡ 2 → word k 1 ≡ 2 → judgeKey d k ≡ accepted a
+    → a ≡ fillSector (start k) (fillEnd (d .visible) k)
+unfolding actionOf
+accepted-sector d k a two second e = key-accepted d k a e .1 ∙ rw (eq-eqb (word k 0) 2 two, second)
+
+pub fill-end-zero : (visible : ℕ) (k : List ℕ) → count k ≡ 0 → fillEnd visible k ≡ visible
+fill-end-zero visible k e = rw e
+
+pub fill-end-count : (visible : ℕ) (k : List ℕ) → (count k ≡ 0 → ⊥) → fillEnd visible k ≡ start k + count k
+fill-end-count visible k e = rw (ne-eqb (count k) 0 e)
+
+-- "bytes 20-23 repeated 128 times"
+pub pattern-bytes : (k : List ℕ) (i : ℕ) → length k ≡ sectorSize → i < sectorSize → getD (patternSector k) i 0 ≡ getD k (20 + i % 4) 0
+pattern-bytes k i size h =
+    let four : length (part k 20 4) ≡ 4 = length-part k 20 4 (omega arith) in
+    let place : 4 * (i / 4) + i % 4 ≡ i = omega arith in
+    ap (λ (j : ℕ). getD (patternSector k) j 0) (sym place)
+    ∙ sym (getD-part (patternSector k) (4 * (i / 4)) 4 (i % 4) (omega arith))
+    ∙ ap (λ (l : List ℕ). getD l (i % 4) 0) (part-repeated 128 (part k 20 4) 4 (i / 4) four (omega arith))
+    ∙ getD-part k 20 4 (i % 4) (omega arith)
+
+-- ---- every accepted key asks what is in range
+
+abbrev pub featureNumber : FeatureName → ℕ
+featureNumber writeCache = 1
+featureNumber reordering = 2
+featureNumber logInterval = 3
+
+-- what an action's values have to meet, on a disk of this visible size
+abbrev pub ActionValid : ℕ → Action → Type 0
+ActionValid visible (fillPattern first end sector) = (first < end) × (end ≤ visible) × Sized sectorSize sector
+ActionValid visible (fillSector first end) = (first < end) × (end ≤ visible)
+ActionValid visible (setTimer t n) = TimerValid n × (n < 256 ^ 2)
+ActionValid visible (returnTimer t) = Unit {0}
+ActionValid visible (setFeature f n keep) = (1 ≤ n) × (n ≤ highestState (featureNumber f))
+ActionValid visible (returnState f) = Unit {0}
+ActionValid visible (returnOption f) = Unit {0}
+ActionValid visible sendTable = Unit {0}
+
+-- "1 to 9" refused leaves 0, which is off, and 10 or more
+timer-range : (n : ℕ) → between 1 n 9 ≡ false → TimerValid n
+timer-range n e = go (decLt n 1) (decLt 9 n)
+  where
+    go : Dec (n < 1) → Dec (9 < n) → TimerValid n
+    go (yes p) q = inl (omega arith)
+    go (no p) (yes q) = inr (omega arith)
+    go (no p) (no q) =
+        let t = between-within 1 n 9 (omega arith) (omega arith) in
+        absurd (let z : _≡_ {A = ℕ} 0 1 = cc in omega arith)
+
+-- a feature's name has its number's states
+highest-named : (n : ℕ) → highestState (featureNumber (featureName n)) ≡ highestState n
+highest-named n = go (eqb n 1) (eqb n 2)
+  where
+    go : (a b : Bool)
+        → highestState (featureNumber (if a then writeCache else if b then reordering else logInterval)) ≡ (if a then 3 else if b then 2 else 65535)
+    go true b = refl
+    go false true = refl
+    go false false = refl
+
+module _ (visible : ℕ) (k : List ℕ) (some : 1 ≤ visible) (size : length k ≡ sectorSize) (bytes : Bytes k) where
+  end-valid : AllPass (fillChecks visible k) → (start k < fillEnd visible k) × (fillEnd visible k ≤ visible)
+  end-valid rows =
+      let low = leb-true (start k) (lastLba visible) (rows .1 .0) in
+      let sum = leb-true (start k + count k) (lastLba visible) (rows .1 .1 .0) in
+      go (eqb (count k) 0) refl low sum
+    where
+      go : (b : Bool) → eqb (count k) 0 ≡ b → start k ≤ lastLba visible → start k + count k ≤ lastLba visible
+          → (start k < (if b then visible else start k + count k)) × ((if b then visible else start k + count k) ≤ visible)
+      go true e low sum = (omega arith, omega arith)
+      go false e low sum = let some-count = eqb-false (count k) 0 e in (omega arith, omega arith)
+
+  fill-valid : AllPass (fillChecks visible k) → ActionValid visible (fillAction visible k)
+  fill-valid rows = go (eqb (word k 1) 1) (end-valid rows)
+    where
+      go : (b : Bool) → (start k < fillEnd visible k) × (fillEnd visible k ≤ visible)
+          → ActionValid visible (if b then fillPattern (start k) (fillEnd visible k) (patternSector k) else fillSector (start k) (fillEnd visible k))
+      go true e =
+          (e .0, e .1,
+          record {
+            size = length-repeated 128 (part k 20 4) ∙ rw (length-part k 20 4 (omega arith));
+            bytes = bytes-repeated 128 (part k 20 4) (bytes-part k 20 4 bytes);
+          })
+      go false e = e
+
+  timer-valid : AllPass (timerChecks k) → ActionValid visible (timerAction k)
+  timer-valid rows = go (eqb (word k 1) 1) (between 1 (word k 3) 9) refl refl (not-true _ (rows .1 .1 .0))
+    where
+      go : (b c : Bool) → eqb (word k 1) 1 ≡ b → between 1 (word k 3) 9 ≡ c → (b && c) ≡ false
+          → ActionValid visible (if b then setTimer (timerName (word k 2)) (word k 3) else returnTimer (timerName (word k 2)))
+      go false c p q e = tt
+      go true true p q e = absurd (let z : _≡_ {A = ℕ} 0 1 = cc in omega arith)
+      go true false p q e = (timer-range (word k 3) q, get-fits 2 k 6 bytes)
+
+  feature-valid : AllPass (featureChecks k) → ActionValid visible (featureAction k)
+  feature-valid rows = go (eqb (word k 1) 1) (eqb (word k 1) 2) (rows .1 .1 .0)
+    where
+      go : (b c : Bool) → (not b || between 1 (word k 3) (highestState (word k 2))) ≡ true
+          → ActionValid visible (if b
+          then setFeature (featureName (word k 2)) (word k 3) (eqb (word k 4) 1)
+          else if c
+          then returnState (featureName (word k 2))
+          else returnOption (featureName (word k 2)))
+      go true c e = let r = between-true 1 (word k 3) (highestState (word k 2)) e in (r .0, rw (highest-named (word k 2)) (r .1))
+      go false true e = tt
+      go false false e = tt
+
+  -- what the words of an accepted key say is in range
+  action-valid : AllPass (actionChecks visible k) → ActionValid visible (actionOf visible k)
+  unfolding actionOf
+  action-valid = go (eqb (word k 0) 2) (eqb (word k 0) 3) (eqb (word k 0) 4)
+    where
+      go : (a b c : Bool)
+          → AllPass (if a then fillChecks visible k else if b then timerChecks k else if c then featureChecks k else tableChecks k)
+          → ActionValid visible (if a then fillAction visible k else if b then timerAction k else if c then featureAction k else sendTable)
+      go true b c rows = fill-valid rows
+      go false true c rows = timer-valid rows
+      go false false true rows = feature-valid rows
+      go false false false rows = tt
+
+pub accepted-valid : (d : Device) (k : List ℕ) (a : Action) → 1 ≤ d .visible → length k ≡ sectorSize → Bytes k
+    → judgeKey d k ≡ accepted a → ActionValid (d .visible) a
+unfolding keyChecks
+accepted-valid d k a some size bytes e =
+    let w = key-accepted d k a e in
+    rw (w .1) (action-valid (d .visible) k some size bytes (w .0 .1 .1))
