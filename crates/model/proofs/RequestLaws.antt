@@ -1,0 +1,227 @@
+-- Condition 2 for requests: for each kind of request its reply, and the device and the disk afterwards.
+use mathlib.Core.Path.{_≡_, refl, sym, ap, _∙_}
+use mathlib.Core.Bool.{Bool, true, false, not}
+use Prim.Native.Nat.{ℕ, zero, suc, _*_, _≤_, _<_}
+use native.Mathlib.Omega.{arith}
+use mathlib.Core.List.{List, [], _∷_}
+use lib.ListN.{length, getD, set}
+use lib.Seq.{sets}
+use lib.Dec.{eqb, ltb}
+use borrow.Author.Tests.{eq-eqb, ne-eqb, lt-ltb, le-ltb}
+use Rattle.wire.specs.Choice.{if_then_else_, bit, Check, firstFailed, ifPassed}
+use Rattle.wire.specs.Parts.{part}
+use Rattle.wire.proofs.ChoiceLaws.{AllPass, pass-all}
+use Rattle.model.specs.Sizes.{sectorSize, portCount, done}
+use Rattle.model.specs.Device.{Fill, idle, running, Transfer, none, table, fillData, Device}
+use Rattle.model.specs.Update.{withSettings, withThermal, withCode, withKey, withPending, withInitialized, withCommand}
+use Rattle.model.specs.Registers.{Direction, read, write, Request, statusRead, keySector, dataTransfer, sectorAccess, other, dataOf, requestOf, Registers, good, refused, refusedWith, replyBytes}
+use Rattle.model.specs.Key.{word, FeatureName, Action, fillPattern, fillSector, setTimer, returnTimer, setFeature, returnState, returnOption, sendTable, Verdict, accepted, rejected, judgeKey}
+use Rattle.model.specs.Status.{statusSector}
+use Rattle.model.specs.Fill.{Volume, nothingPending, stopFill, interrupt, startFill, writeSector}
+use Rattle.model.specs.Decide.{Effect, nothing, sendStatus, sendTemperatures, readLba, writeLba, beginFill, Decision, decision, decideStatus, timer, withTimer, feature, withFeature, afterFeature, carryOut, decideVerdict, decideKey, moves, sectorsOf, dataChecks, decideData, sectorChecks, decideSector, pendingFor, decideRequest, decide}
+use Rattle.model.specs.Perform.{temperatureTable, written, sent}
+use Rattle.model.specs.Machine.{Port, empty, request, reply, Machine, withPort, heldBytes}
+use Rattle.model.specs.Step.{Step, serve, Serving, Seen, Outcome, checks, answered, served, serveDecided, step}
+use Rattle.model.proofs.StepLaws.{step-done, port-same, port-other}
+
+abbrev pub serveOn : ℕ → Machine → Outcome Machine
+serveOn p M = step (serve (record { port = p })) M
+
+-- The port p is served: it then holds this reply, the others what they held, and device and disk are these.
+pub record Serves (p : ℕ) (M : Machine) (answer : List ℕ) (d : Device) (disk : List ℕ) : Type 0 where
+  pub isSeen : serveOn p M .seen ≡ answered done
+  pub replied : serveOn p M .state .ports p ≡ reply answer
+  pub others : (q : ℕ) → (q ≡ p → ⊥) → serveOn p M .state .ports q ≡ M .ports q
+  pub deviceAfter : serveOn p M .state .device ≡ d
+  pub diskAfter : serveOn p M .state .disk ≡ disk
+
+abbrev decidedVolume : Decision → Machine → Volume
+decidedVolume c M = record { device = c .device; disk = M .disk }
+
+-- stopping a fill leaves all but the command's state
+stop-kept : (f : Fill) (d : Device) → stopFill f d ≡ withCommand (stopFill f d .command) d
+stop-kept idle d = refl
+stop-kept (running first next end) d = refl
+
+pub interrupt-kept : (d : Device) → interrupt d ≡ withCommand (interrupt d .command) d
+unfolding interrupt
+interrupt-kept d = ap (withPending nothingPending) (stop-kept (d .command .fill) d)
+
+module _ (p : ℕ) (M : Machine) (m : List ℕ) (port : p < portCount) (held : M .ports p ≡ request m) where
+  -- a held request is decided from the bytes taken, and performed
+  pub serves : {c : Decision} → decide p m (M .device) ≡ c
+      → Serves p M (replyBytes (c .registers) (sent (c .effect) (decidedVolume c M))) (written (c .effect) (decidedVolume c M) .device) (written (c .effect) (decidedVolume c M) .disk)
+  unfolding served serveDecided
+  serves {c} e =
+      let s = serve (record { port = p }) in
+      let is = step-done s M (pass-all (checks s M) (lt-ltb p portCount port, (rw held, tt))) in
+      let same : decide p (heldBytes (M .ports p)) (M .device) ≡ c = ap (λ (x : Port). decide p (heldBytes x) (M .device)) held ∙ e in
+      record {
+        isSeen = rw is;
+        replied = rw (is, same) (port-same p _ (M .ports));
+        others = λ q ne. rw (is, same) (port-other p q _ (M .ports) ne);
+        deviceAfter = rw (is, same);
+        diskAfter = rw (is, same);
+      }
+
+  decided : (r : Request) → requestOf m ≡ r → decide p m (M .device) ≡ decideRequest r p m (M .device)
+  unfolding decide
+  decided r e = rw e
+
+  -- ---- status
+
+  pub serves-status : requestOf m ≡ statusRead → M .device .locked ≡ false
+      → Serves p M (replyBytes (good 0 0) (statusSector (M .device))) (M .device) (M .disk)
+  serves-status e unlocked = serves {c = decision (M .device) (good 0 0) sendStatus} (decided statusRead e ∙ rw unlocked)
+
+  -- "A refused status read under the lock answers 0012h and stores nothing."
+  pub serves-status-locked : requestOf m ≡ statusRead → M .device .locked ≡ true
+      → Serves p M (replyBytes (refusedWith 0x0012) []) (M .device) (M .disk)
+  serves-status-locked e locked = serves {c = decision (M .device) (refusedWith 0x0012) nothing} (decided statusRead e ∙ rw locked)
+
+  -- ---- key sector
+
+  -- the device of an accepted key: the fill stopped, nothing pending, action and function recorded, code 0000h
+  abbrev pub keyed : Device
+  keyed = withCode 0x0000 (withKey (word (dataOf m) 0) (word (dataOf m) 1) (interrupt (M .device)))
+
+  abbrev pub keyJudged : Verdict
+  keyJudged = judgeKey (interrupt (M .device)) (dataOf m)
+
+  decided-key : requestOf m ≡ keySector → (v : Verdict) → keyJudged ≡ v
+      → decide p m (M .device) ≡ decideVerdict v p (withKey (word (dataOf m) 0) (word (dataOf m) 1) (interrupt (M .device)))
+  unfolding decideKey
+  decided-key e v j = decided keySector e ∙ rw j
+
+  -- "both are recorded from every key, accepted or not"; "A refused key stores its code."
+  pub serves-key-refused : (code : ℕ) → requestOf m ≡ keySector → keyJudged ≡ rejected code
+      → Serves p M (replyBytes (refusedWith code) []) (withCode code keyed) (M .disk)
+  serves-key-refused code e j = serves (decided-key e (rejected code) j)
+
+  decided-accepted : requestOf m ≡ keySector → (a : Action) → keyJudged ≡ accepted a → decide p m (M .device) ≡ carryOut a p keyed
+  decided-accepted e a j = decided-key e (accepted a) j
+
+  -- "Pattern fill starts at once": code FFFFh, next is first; no sector is written yet
+  pub serves-pattern : (first end : ℕ) (sector : List ℕ) → requestOf m ≡ keySector → keyJudged ≡ accepted (fillPattern first end sector)
+      → Serves p M (replyBytes (good 0 0) []) (startFill first end keyed) (M .disk)
+  unfolding carryOut
+  serves-pattern first end sector e j = serves (decided-accepted e _ j)
+
+  -- "LBA Mid is 1 if a sector is owed (fill function 2, table)"
+  pub serves-fill-sector : (first end : ℕ) → requestOf m ≡ keySector → keyJudged ≡ accepted (fillSector first end)
+      → Serves p M (replyBytes (good 0 1) []) (withPending (set nothingPending p (fillData first end)) keyed) (M .disk)
+  unfolding carryOut interrupt
+  serves-fill-sector first end e j = serves (decided-accepted e _ j)
+
+  pub serves-send-table : requestOf m ≡ keySector → keyJudged ≡ accepted sendTable
+      → Serves p M (replyBytes (good 0 1) []) (withPending (set nothingPending p table) keyed) (M .disk)
+  unfolding carryOut interrupt
+  serves-send-table e j = serves (decided-accepted e _ j)
+
+  pub serves-set-timer : (t : Direction) (n : ℕ) → requestOf m ≡ keySector → keyJudged ≡ accepted (setTimer t n)
+      → Serves p M (replyBytes (good 0 0) []) (withSettings (withTimer t n (keyed .settings)) keyed) (M .disk)
+  unfolding carryOut
+  serves-set-timer t n e j = serves (decided-accepted e _ j)
+
+  -- "The value asked for by timers 2 and feature 2 or 3 (the mark, 0 or 1) stands in Sector Count (low) and LBA Low (high)"
+  pub serves-return-timer : (t : Direction) → requestOf m ≡ keySector → keyJudged ≡ accepted (returnTimer t)
+      → Serves p M (replyBytes (good (timer t (keyed .settings)) 0) []) keyed (M .disk)
+  unfolding carryOut
+  serves-return-timer t e j = serves (decided-accepted e _ j)
+
+  -- "Any set of feature 3 empties the temperature history."
+  pub serves-set-feature : (f : FeatureName) (n : ℕ) (keep : Bool) → requestOf m ≡ keySector → keyJudged ≡ accepted (setFeature f n keep)
+      → Serves p M (replyBytes (good 0 0) []) (afterFeature f (withSettings (withFeature f (record { state = n; persistent = keep }) (keyed .settings)) keyed)) (M .disk)
+  unfolding carryOut
+  serves-set-feature f n keep e j = serves (decided-accepted e _ j)
+
+  pub serves-return-state : (f : FeatureName) → requestOf m ≡ keySector → keyJudged ≡ accepted (returnState f)
+      → Serves p M (replyBytes (good (feature f (keyed .settings) .state) 0) []) keyed (M .disk)
+  unfolding carryOut
+  serves-return-state f e j = serves (decided-accepted e _ j)
+
+  pub serves-return-option : (f : FeatureName) → requestOf m ≡ keySector → keyJudged ≡ accepted (returnOption f)
+      → Serves p M (replyBytes (good (bit (feature f (keyed .settings) .persistent)) 0) []) keyed (M .disk)
+  unfolding carryOut
+  serves-return-option f e j = serves (decided-accepted e _ j)
+
+  -- ---- data (E1h)
+
+  -- the code of a refused transfer: "lock 0012h; no owed transfer of this port and direction 000Bh; count not 1 0003h"
+  abbrev pub dataCode : Direction → ℕ → ℕ
+  dataCode dir count = firstFailed (dataChecks (M .device .locked) dir count (getD (M .device .command .pending) p none))
+
+  decided-data : (dir : Direction) (count : ℕ) → requestOf m ≡ dataTransfer dir count
+      → decide p m (M .device) ≡ decideData dir count (getD (M .device .command .pending) p none) (dataOf m) (interrupt (M .device))
+  decided-data dir count e = decided (dataTransfer dir count) e
+
+  -- "Each becomes the stored code."
+  pub serves-data-refused : (dir : Direction) (count code : ℕ) → requestOf m ≡ dataTransfer dir count → dataCode dir count ≡ suc code
+      → Serves p M (replyBytes (refusedWith (suc code)) []) (withCode (suc code) (interrupt (M .device))) (M .disk)
+  unfolding decideData
+  serves-data-refused dir count code e j =
+      serves {c = decision (withCode (suc code) (interrupt (M .device))) (refusedWith (suc code)) nothing}
+      (decided-data dir count e ∙ rw (interrupt-kept (M .device), j))
+
+  -- "A table is sent as it stands at the E1h read."
+  pub serves-table : requestOf m ≡ dataTransfer read 1 → M .device .locked ≡ false → getD (M .device .command .pending) p none ≡ table
+      → Serves p M (replyBytes (good 0 0) (temperatureTable (M .device))) (withCode 0x0000 (interrupt (M .device))) (M .disk)
+  unfolding decideData
+  serves-table e unlocked pends =
+      rw (← ap temperatureTable (interrupt-kept (M .device)))
+      (serves {c = decision (withCode 0x0000 (interrupt (M .device))) (good 0 0) sendTemperatures}
+      (decided-data read 1 e ∙ rw (pends, interrupt-kept (M .device), unlocked)))
+
+  -- "A completed transfer stores .. FFFFh where it starts a fill."
+  pub serves-fill-data : (first end : ℕ) → requestOf m ≡ dataTransfer write 1 → M .device .locked ≡ false
+      → getD (M .device .command .pending) p none ≡ fillData first end
+      → Serves p M (replyBytes (good 0 0) []) (startFill first end (withCode 0x0000 (interrupt (M .device)))) (M .disk)
+  unfolding decideData
+  serves-fill-data first end e unlocked pends =
+      serves {c = decision (withCode 0x0000 (interrupt (M .device))) (good 0 0) (beginFill first end (dataOf m))}
+      (decided-data write 1 e ∙ rw (pends, interrupt-kept (M .device), unlocked))
+
+  -- Another port, or the other direction: 51h, 04h, 000Bh and a zero sector, and afterwards nothing is pending.
+  pub serves-not-pending : (dir : Direction) (count : ℕ) → requestOf m ≡ dataTransfer dir count → M .device .locked ≡ false
+      → moves dir (getD (M .device .command .pending) p none) ≡ false
+      → Serves p M (replyBytes (refusedWith 0x000B) []) (withCode 0x000B (interrupt (M .device))) (M .disk)
+      × (serveOn p M .state .device .command .pending ≡ nothingPending)
+  unfolding interrupt
+  serves-not-pending dir count e unlocked pends =
+      let s = serves-data-refused dir count 0x000A e (rw (unlocked, pends)) in
+      (s, ap (λ (d : Device). d .command .pending) (s .deviceAfter))
+
+  -- ---- one sector (24h, 34h)
+
+  decided-sector : (dir : Direction) (count lba : ℕ) → requestOf m ≡ sectorAccess dir count lba
+      → decide p m (M .device) ≡ decideSector dir count lba (dataOf m) (interrupt (M .device))
+  decided-sector dir count lba e = decided (sectorAccess dir count lba) e
+
+  pub serves-read : (lba : ℕ) → requestOf m ≡ sectorAccess read 1 lba → M .device .locked ≡ false → lba < M .device .visible
+      → Serves p M (replyBytes (good 0 0) (part (M .disk) (sectorSize * lba) sectorSize)) (interrupt (M .device)) (M .disk)
+  unfolding decideSector
+  serves-read lba e unlocked low =
+      serves {c = decision (interrupt (M .device)) (good 0 0) (readLba lba)}
+      (decided-sector read 1 lba e ∙ rw (interrupt-kept (M .device), unlocked, lt-ltb lba (M .device .visible) low))
+
+  -- the sector is written at its place, every other byte stays, and the flag is cleared
+  pub serves-write : (lba : ℕ) → requestOf m ≡ sectorAccess write 1 lba → M .device .locked ≡ false → lba < M .device .visible
+      → Serves p M (replyBytes (good 0 0) []) (withInitialized false (interrupt (M .device))) (sets (M .disk) (sectorSize * lba) (dataOf m))
+  unfolding decideSector writeSector
+  serves-write lba e unlocked low =
+      serves {c = decision (interrupt (M .device)) (good 0 0) (writeLba lba (dataOf m))}
+      (decided-sector write 1 lba e ∙ rw (interrupt-kept (M .device), unlocked, lt-ltb lba (M .device .visible) low))
+
+  -- "Count (16 bits) other than 1: Error 04h. LBA at or above V: Error 10h. Locked: Error 04h, before both."
+  pub serves-sector-refused : (dir : Direction) (count lba error : ℕ) → requestOf m ≡ sectorAccess dir count lba
+      → firstFailed (sectorChecks (M .device) count lba) ≡ suc error
+      → Serves p M (replyBytes (refused (suc error)) []) (interrupt (M .device)) (M .disk)
+  unfolding decideSector
+  serves-sector-refused dir count lba error e j =
+      serves {c = decision (interrupt (M .device)) (refused (suc error)) nothing}
+      (decided-sector dir count lba e ∙ rw (interrupt-kept (M .device), j))
+
+  -- ---- "All else": Error 04h, "stored code unchanged unless a fill was stopped"
+
+  pub serves-other : requestOf m ≡ other → Serves p M (replyBytes (refused 0x04) []) (interrupt (M .device)) (M .disk)
+  serves-other e = serves (decided other e)

@@ -1,0 +1,96 @@
+-- Laws of a step: done or refused, and the order of the refusals.
+use mathlib.Core.Path.{_≡_, refl, sym, ap, _∙_}
+use mathlib.Core.Bool.{Bool, true, false, _&&_}
+use Prim.Native.Nat.{ℕ, zero, suc, _≤_, _<_}
+use native.Mathlib.Omega.{arith}
+use mathlib.Core.List.{List, [], _∷_, map}
+use lib.ListN.{length}
+use lib.Dec.{eqb, leb}
+use borrow.Author.Tests.{eq-eqb, ne-eqb, lt-ltb}
+use Rattle.wire.specs.Choice.{if_then_else_, Check, firstFailed}
+use Rattle.wire.proofs.ChoiceLaws.{Numbered, all-pass, pass-all, first-bound}
+use Rattle.model.specs.Sizes.{portCount, mailboxSize, done, refusalOrder}
+use Rattle.model.specs.Machine.{Port, empty, request, reply, Machine, withPort, heldBytes}
+use Rattle.model.specs.Step.{Step, take, serve, give, work, lock, unlock, setVisible, sample, save, powerOn, Seen, Outcome, checks, unchanged, seen, answered, answeredMailbox, does, attempt, step}
+
+-- a step that no check refuses is done
+pub step-done : (x : Step) (M : Machine) → firstFailed (checks x M) ≡ 0 → step x M ≡ record { state = does x M; seen = seen x M }
+unfolding step
+step-done x M e = ap (λ (n : ℕ). attempt n M (unchanged x n) (record { state = does x M; seen = seen x M })) e
+
+-- "A nonzero answer changes nothing anywhere": the machine, the mailbox and the image are as they were, and the count is 0
+pub step-refused : (x : Step) (M : Machine) (n : ℕ) → firstFailed (checks x M) ≡ suc n → step x M ≡ record { state = M; seen = unchanged x (suc n) }
+unfolding step
+step-refused x M n e = ap (λ (n : ℕ). attempt n M (unchanged x n) (record { state = does x M; seen = seen x M })) e
+
+-- ---- "Order where several apply: 4, 2, 1, 5, 3, 6, 7, 8."
+
+-- how early a number stands in a list
+abbrev pub place : List ℕ → ℕ → ℕ
+place [] n = 0
+place (m ∷ ms) n = if eqb m n then 0 else suc (place ms n)
+
+-- from a place of that order on, the checks' numbers keep to it
+abbrev pub keepsOrder : ℕ → List Check → Bool
+keepsOrder from [] = true
+keepsOrder from (c ∷ cs) = leb from (place refusalOrder (c .1)) && keepsOrder (place refusalOrder (c .1)) cs
+
+pub order-kept : (x : Step) (M : Machine) → keepsOrder 0 (checks x M) ≡ true
+order-kept (take p m) M = refl
+order-kept (serve s) M = refl
+order-kept (give p m) M = refl
+order-kept (work n) M = refl
+order-kept lock M = refl
+order-kept unlock M = refl
+order-kept (setVisible v) M = refl
+order-kept (sample reading) M = refl
+order-kept (save image used) M = refl
+order-kept (powerOn image used) M = refl
+
+-- every refusal has a number from 1 to 8
+pub answers-numbered : (x : Step) (M : Machine) → Numbered 8 (checks x M)
+answers-numbered (take p m) M = (omega arith, omega arith, (omega arith, omega arith, (omega arith, omega arith, tt)))
+answers-numbered (serve s) M = (omega arith, omega arith, (omega arith, omega arith, tt))
+answers-numbered (give p m) M = (omega arith, omega arith, (omega arith, omega arith, (omega arith, omega arith, tt)))
+answers-numbered (work n) M = tt
+answers-numbered lock M = tt
+answers-numbered unlock M = tt
+answers-numbered (setVisible v) M = (omega arith, omega arith, tt)
+answers-numbered (sample reading) M = tt
+answers-numbered (save image used) M = (omega arith, omega arith, (omega arith, omega arith, (omega arith, omega arith, (omega arith, omega arith, tt))))
+answers-numbered (powerOn image used) M = (omega arith, omega arith, (omega arith, omega arith, (omega arith, omega arith, (omega arith, omega arith, tt))))
+
+-- ---- ports
+
+pub port-same : (p : ℕ) (x : Port) (ports : ℕ → Port) → withPort p x ports p ≡ x
+port-same p x ports = rw (eq-eqb p p refl)
+
+pub port-other : (p q : ℕ) (x : Port) (ports : ℕ → Port) → (q ≡ p → ⊥) → withPort p x ports q ≡ ports q
+port-other p q x ports ne = rw (ne-eqb q p ne)
+
+-- ---- take and give
+
+-- "Take copies the mailbox into the port's slot": the port holds the mailbox's bytes, whatever they are
+pub take-keeps : (p : ℕ) (m : List ℕ) (M : Machine) → p < portCount → length m ≡ mailboxSize → M .ports p ≡ empty
+    → step (take p m) M .state .ports p ≡ request m
+take-keeps p m M h size e =
+    rw (step-done (take p m) M (pass-all (checks (take p m) M) (eq-eqb (length m) mailboxSize size, (lt-ltb p portCount h, (rw e, tt)))))
+    (port-same p (request m) (M .ports))
+
+-- "Give .. writes all 528 reply bytes to the mailbox. Answered to empty"
+pub give-delivers : (p : ℕ) (m r : List ℕ) (M : Machine) → p < portCount → length m ≡ mailboxSize → M .ports p ≡ reply r
+    → (step (give p m) M .seen ≡ answeredMailbox done r) × (step (give p m) M .state .ports p ≡ empty)
+give-delivers p m r M h size e =
+    rw (step-done (give p m) M (pass-all (checks (give p m) M) (eq-eqb (length m) mailboxSize size, (lt-ltb p portCount h, (rw e, tt)))))
+    (rw e, port-same p empty (M .ports))
+
+-- what give finds in the mailbox changes nothing
+pub give-blind : (p : ℕ) (m n : List ℕ) (M : Machine) → length m ≡ length n → step (give p m) M .state ≡ step (give p n) M .state
+unfolding step
+give-blind p m n M e = rw e (go (firstFailed (checks (give p n) M)))
+  where
+    go : (k : ℕ)
+        → attempt k M (unchanged (give p m) k) (record { state = does (give p m) M; seen = seen (give p m) M }) .state
+        ≡ attempt k M (unchanged (give p n) k) (record { state = does (give p n) M; seen = seen (give p n) M }) .state
+    go zero = refl
+    go (suc k) = refl
