@@ -73,10 +73,34 @@ unfolding statusSector
 status-at d v =
     let c = v .commandValid .words in
     let t = v .thermalValid .bytes in
-    let fit : Fit (statusFields d) =
-        (omega arith, (omega arith, (omega arith, (omega (arith, bit-small (d .initialized)), (state-fits (d .command .fill),
-        (c .0, (c .1, (c .2, (next-fits d (d .command .fill) (v .commandValid .fillValid) (omega (arith, v .sizes .1, v .sizes .2)),
-        (t .0, (t .1, (t .2, tt)))))))))))) in
+    let fit : Fit (statusFields d) = (
+      omega arith,
+      (
+        omega arith,
+        (
+          omega arith,
+          (
+            omega (arith, bit-small (d .initialized)),
+            (
+              state-fits (d .command .fill),
+              (
+                c .0,
+                (
+                  c .1,
+                  (
+                    c .2,
+                    (
+                      next-fits d (d .command .fill) (v .commandValid .fillValid) (omega (arith, v .sizes .1, v .sizes .2)),
+                      (t .0, (t .1, (t .2, tt))),
+                    ),
+                  ),
+                ),
+              ),
+            ),
+          ),
+        ),
+      ),
+    ) in
     let r = reads-form sectorSize (statusFields d) refl fit in
     record {
       format = r .0;
@@ -117,22 +141,21 @@ pub table-at : (interval index : ℕ) (history : List ℕ) → interval < 256 ^ 
 unfolding tableBytes
 table-at interval index history i x h =
     let fit : Fit (tableFields interval index) =
-        (omega arith, (omega arith, (i, (omega arith, (omega arith, (omega arith, (omega arith, (omega arith, (x, tt))))))))) in
+    (omega arith, (omega arith, (i, (omega arith, (omega arith, (omega arith, (omega arith, (omega arith, (x, tt))))))))) in
     let r = reads-form tableHeadSize (tableFields interval index) refl fit in
     let size = length-form tableHeadSize (tableFields interval index) in
     let front : (k at : ℕ) → at + k ≤ 34 → get k (form tableHeadSize (tableFields interval index) ++ history) at ≡ get k (form tableHeadSize (tableFields interval index)) at =
-        λ k at b. get-append-left k (form tableHeadSize (tableFields interval index)) history at (rw size b) in
+    λ k at b. get-append-left k (form tableHeadSize (tableFields interval index)) history at (rw size b) in
     record {
       format = front 2 0 (omega arith) ∙ r .0;
       period = front 2 2 (omega arith) ∙ r .1 .0;
       intervalAt = front 2 4 (omega arith) ∙ r .1 .1 .0;
-      limits =
-          (
-            front 1 6 (omega arith) ∙ r .1 .1 .1 .0,
-            front 1 7 (omega arith) ∙ r .1 .1 .1 .1 .0,
-            front 1 8 (omega arith) ∙ r .1 .1 .1 .1 .1 .0,
-            front 1 9 (omega arith) ∙ r .1 .1 .1 .1 .1 .1 .0,
-          );
+      limits = (
+        front 1 6 (omega arith) ∙ r .1 .1 .1 .0,
+        front 1 7 (omega arith) ∙ r .1 .1 .1 .1 .0,
+        front 1 8 (omega arith) ∙ r .1 .1 .1 .1 .1 .0,
+        front 1 9 (omega arith) ∙ r .1 .1 .1 .1 .1 .1 .0,
+      );
       zero = λ j b o.
           List·getD-append (form tableHeadSize (tableFields interval index)) history 0 j (rw size b)
           ∙ form-outside tableHeadSize (tableFields interval index) j o;
@@ -185,7 +208,7 @@ reply-at r s f h =
     let reads = reads-form registersSize (registersFields r) refl fit in
     let behind = s ++ zeros (mailboxSize - length (registersBytes r ++ s)) in
     let front : (at : ℕ) → at + 1 ≤ 16 → get 1 (replyBytes r s) at ≡ get 1 (registersBytes r) at =
-        λ at b. ap (λ (m : List ℕ). get 1 m at) (reply-split r s) ∙ get-append-left 1 (registersBytes r) behind at (rw (length-registers r) b) in
+    λ at b. ap (λ (m : List ℕ). get 1 m at) (reply-split r s) ∙ get-append-left 1 (registersBytes r) behind at (rw (length-registers r) b) in
     record {
       count = front 2 (omega arith) ∙ reads .0;
       low = front 4 (omega arith) ∙ reads .1 .0;

@@ -156,12 +156,14 @@ module _ (visible : ℕ) (k : List ℕ) (some : 1 ≤ visible) (size : length k 
     where
       go : (b : Bool) → (start k < fillEnd visible k) × (fillEnd visible k ≤ visible)
           → ActionValid visible (if b then fillPattern (start k) (fillEnd visible k) (patternSector k) else fillSector (start k) (fillEnd visible k))
-      go true e =
-          (e .0, e .1,
-          record {
-            size = length-repeated 128 (part k 20 4) ∙ rw (length-part k 20 4 (omega arith));
-            bytes = bytes-repeated 128 (part k 20 4) (bytes-part k 20 4 bytes);
-          })
+      go true e = (
+        e .0,
+        e .1,
+        record {
+          size = length-repeated 128 (part k 20 4) ∙ rw (length-part k 20 4 (omega arith));
+          bytes = bytes-repeated 128 (part k 20 4) (bytes-part k 20 4 bytes);
+        },
+      )
       go false e = e
 
   timer-valid : AllPass (timerChecks k) → ActionValid visible (timerAction k)

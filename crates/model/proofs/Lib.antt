@@ -4,4 +4,10 @@ pub mod StepLaws
 pub mod KeyLaws
 pub mod FormatLaws
 pub mod RequestLaws
+pub mod TemperatureLaws
+pub mod OwnerLaws
 pub mod WorkLaws
+pub mod EntryLaws
+pub mod ImageLaws
+pub mod SaveLaws
+pub mod PowerOnLaws

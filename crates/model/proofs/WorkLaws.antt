@@ -39,11 +39,11 @@ advanced-again first next end d = go (eqb (suc next) end)
   where
     go : (b : Bool)
         → (if b
-          then withInitialized (wholeDisk first end (d .visible)) (withFill idle 0x0000 (withInitialized false (withFill (running first next end) runningCode (withInitialized false d))))
-          else withFill (running first (suc next) end) runningCode (withInitialized false (withFill (running first next end) runningCode (withInitialized false d))))
+        then withInitialized (wholeDisk first end (d .visible)) (withFill idle 0x0000 (withInitialized false (withFill (running first next end) runningCode (withInitialized false d))))
+        else withFill (running first (suc next) end) runningCode (withInitialized false (withFill (running first next end) runningCode (withInitialized false d))))
         ≡ (if b
-          then withInitialized (wholeDisk first end (d .visible)) (withFill idle 0x0000 (withInitialized false d))
-          else withFill (running first (suc next) end) runningCode (withInitialized false d))
+        then withInitialized (wholeDisk first end (d .visible)) (withFill idle 0x0000 (withInitialized false d))
+        else withFill (running first (suc next) end) runningCode (withInitialized false d))
     go true = refl
     go false = refl
 

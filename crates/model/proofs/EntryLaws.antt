@@ -1,0 +1,244 @@
+-- Laws of one entry of the saved image: its sizes, the ranges of its values, and that what is saved is read back.
+use mathlib.Core.Path.{_≡_, refl, sym, ap, _∙_}
+use mathlib.Core.Bool.{Bool, true, false, _&&_}
+use Prim.Native.Nat.{ℕ, _+_, _*_, _^_, _≤_, _<_}
+use native.Mathlib.Omega.{arith}
+use mathlib.Core.List.{List, [], _++_, append-assoc}
+use lib.ListN.{length, drop, length-append}
+use lib.Dec.{eqb, ltb}
+use borrow.Author.Tests.{ltb-true, lt-ltb}
+use Rattle.wire.specs.Choice.{bit, between}
+use Rattle.wire.specs.Numbers.{get}
+use Rattle.wire.specs.Parts.{part}
+use Rattle.wire.specs.Layout.{form, Reads}
+use Rattle.wire.specs.Bytes.{Bytes}
+use Rattle.wire.proofs.ChoiceLaws.{and-left, and-right, and-both, between-true, between-within, bit-small}
+use Rattle.wire.proofs.NumbersLaws.{get-append-left, get-append-right}
+use Rattle.wire.proofs.PartsLaws.{length-part, part-append-right}
+use Rattle.wire.proofs.LayoutLaws.{length-form, reads-form}
+use Rattle.wire.proofs.BytesLaws.{bytes-nil, bytes-cons, bytes-append, bytes-form, bytes-part, get-fits, same-refl}
+use Rattle.model.specs.Sizes.{sectorSize, nativeLimit, historySize, bodySize, trailerSize}
+use Rattle.model.specs.Key.{highestState}
+use Rattle.model.specs.Temperature.{tableFields, tableHeadSize, tableBytes}
+use Rattle.model.specs.Image.{Saved, headFields, headSize, bodyBytes, hasBit, savedIn, inRange, bodyHolds, tag, trailerFields, trailerBytes}
+use Rattle.model.specs.Valid.{StateValid}
+
+-- ---- several tests at once
+
+pub and-three : (a b c : Bool) → (a && b && c) ≡ true → (a ≡ true) × (b ≡ true) × (c ≡ true)
+and-three a b c h = let front = and-left (a && b) c h in (and-left a b front, and-right a b front, and-right (a && b) c h)
+
+pub three-and : (a b c : Bool) → a ≡ true → b ≡ true → c ≡ true → (a && b && c) ≡ true
+three-and a b c p q r = and-both (a && b) c (and-both a b p q) r
+
+-- ---- sizes
+
+pub length-table : (i x : ℕ) (h : List ℕ) → length h ≡ historySize → length (tableBytes i x h) ≡ sectorSize
+unfolding tableBytes
+length-table i x h e = length-append (form tableHeadSize (tableFields i x)) h ∙ rw (length-form tableHeadSize (tableFields i x), e)
+
+pub length-body : (s : Saved) → length (s .history) ≡ historySize → length (bodyBytes s) ≡ bodySize
+unfolding bodyBytes
+length-body s e =
+    length-append (form headSize (headFields s)) (tableBytes (s .logInterval .state) (s .index) (s .history))
+    ∙ rw (length-form headSize (headFields s), length-table (s .logInterval .state) (s .index) (s .history) e)
+
+pub length-trailer : (k : ℕ) → length (trailerBytes k) ≡ trailerSize
+unfolding trailerBytes
+length-trailer k = length-append (form 12 (trailerFields k)) tag ∙ rw (length-form 12 (trailerFields k))
+
+-- ---- what is saved is read back
+
+-- The values fit their places in a body.
+pub record SavedFits (s : Saved) : Type 0 where
+  pub native : s .native < 256 ^ 8
+  pub visible : s .visible < 256 ^ 8
+  pub lifeMaximum : s .lifeMaximum < 256
+  pub writeCache : s .writeCache .state < 256 ^ 2
+  pub reordering : s .reordering .state < 256 ^ 2
+  pub logInterval : s .logInterval .state < 256 ^ 2
+  pub index : s .index < 256 ^ 2
+  pub whole : length (s .history) ≡ historySize
+  pub readings : Bytes (s .history)
+
+head-reads : (s : Saved) → SavedFits s → Reads (headFields s) (form headSize (headFields s))
+head-reads s f =
+    reads-form headSize (headFields s) refl
+    (f .native, (f .visible, (flag, (f .lifeMaximum, (f .writeCache, (f .reordering, (f .logInterval, (options, tt))))))))
+  where
+    flag : bit (s .initialized) < 256 ^ 1
+    flag = omega (arith, bit-small (s .initialized))
+
+    options : bit (s .writeCache .persistent) + 2 * bit (s .reordering .persistent) + 4 * bit (s .logInterval .persistent) < 256 ^ 1
+    options = omega (arith, bit-small (s .writeCache .persistent), bit-small (s .reordering .persistent), bit-small (s .logInterval .persistent))
+
+table-reads : (interval index : ℕ) → interval < 256 ^ 2 → index < 256 ^ 2 → Reads (tableFields interval index) (form tableHeadSize (tableFields interval index))
+table-reads interval index f g =
+    reads-form tableHeadSize (tableFields interval index) refl
+    (omega arith, (omega arith, (f, (omega arith, (omega arith, (omega arith, (omega arith, (omega arith, (g, tt)))))))))
+
+-- a number of the head, read from the body
+get-head : (s : Saved) (k at : ℕ) → at + k ≤ headSize → get k (bodyBytes s) at ≡ get k (form headSize (headFields s)) at
+unfolding bodyBytes
+get-head s k at h =
+    get-append-left k (form headSize (headFields s)) (tableBytes (s .logInterval .state) (s .index) (s .history)) at
+    (rw (length-form headSize (headFields s)) h)
+
+-- a number of the table's head, read from the body
+get-table : (s : Saved) (k at : ℕ) → at + k ≤ tableHeadSize
+    → get k (bodyBytes s) (headSize + at) ≡ get k (form tableHeadSize (tableFields (s .logInterval .state) (s .index))) at
+unfolding bodyBytes tableBytes
+get-table s k at h =
+    get-append-right k (form headSize (headFields s)) (tableBytes (s .logInterval .state) (s .index) (s .history)) headSize at
+    (length-form headSize (headFields s))
+    ∙ get-append-left k (form tableHeadSize (tableFields (s .logInterval .state) (s .index))) (s .history) at
+    (rw (length-form tableHeadSize (tableFields (s .logInterval .state) (s .index))) h)
+
+-- the history, read from the body
+part-history : (s : Saved) → length (s .history) ≡ historySize → part (bodyBytes s) (headSize + tableHeadSize) historySize ≡ s .history
+unfolding bodyBytes tableBytes
+part-history s e =
+    let head = form headSize (headFields s) in
+    let table = form tableHeadSize (tableFields (s .logInterval .state) (s .index)) in
+    ap (λ (l : List ℕ). part l (headSize + tableHeadSize) historySize) (sym (append-assoc head table (s .history)))
+    ∙ part-append-right (head ++ table) (s .history) (headSize + tableHeadSize) historySize
+    (length-append head table ∙ rw (length-form headSize (headFields s), length-form tableHeadSize (tableFields (s .logInterval .state) (s .index))))
+    e
+
+flag-back : (b : Bool) → eqb (bit b) 1 ≡ b
+flag-back true = refl
+flag-back false = refl
+
+-- three options in one byte
+options-back : (a b c : Bool) → let byte = bit a + 2 * bit b + 4 * bit c in (hasBit 1 byte ≡ a) × (hasBit 2 byte ≡ b) × (hasBit 4 byte ≡ c)
+options-back true true true = (refl, refl, refl)
+options-back true true false = (refl, refl, refl)
+options-back true false true = (refl, refl, refl)
+options-back true false false = (refl, refl, refl)
+options-back false true true = (refl, refl, refl)
+options-back false true false = (refl, refl, refl)
+options-back false false true = (refl, refl, refl)
+options-back false false false = (refl, refl, refl)
+
+-- THE LAW of an entry's body: what is saved is read back.
+pub saved-back : (s : Saved) → SavedFits s → savedIn (bodyBytes s) ≡ s
+unfolding savedIn
+saved-back s f =
+    let reads = head-reads s f in
+    let native = get-head s 8 0 (omega arith) ∙ reads .0 in
+    let visible = get-head s 8 8 (omega arith) ∙ reads .1 .0 in
+    let flag = ap (λ (x : ℕ). eqb x 1) (get-head s 1 16 (omega arith) ∙ reads .1 .1 .0) ∙ flag-back (s .initialized) in
+    let maximum = get-head s 1 17 (omega arith) ∙ reads .1 .1 .1 .0 in
+    let first = get-head s 2 18 (omega arith) ∙ reads .1 .1 .1 .1 .0 in
+    let second = get-head s 2 20 (omega arith) ∙ reads .1 .1 .1 .1 .1 .0 in
+    let third = get-head s 2 22 (omega arith) ∙ reads .1 .1 .1 .1 .1 .1 .0 in
+    let byte = get-head s 1 24 (omega arith) ∙ reads .1 .1 .1 .1 .1 .1 .1 .0 in
+    let options = options-back (s .writeCache .persistent) (s .reordering .persistent) (s .logInterval .persistent) in
+    let index = get-table s 2 32 (omega arith) ∙ table-reads (s .logInterval .state) (s .index) (f .logInterval) (f .index) .1 .1 .1 .1 .1 .1 .1 .1 .0 in
+    let history = part-history s (f .whole) in
+    λ i.
+    record {
+      native = native i;
+      visible = visible i;
+      initialized = flag i;
+      lifeMaximum = maximum i;
+      writeCache = record { state = first i; persistent = (ap (hasBit 1) byte ∙ options .0) i };
+      reordering = record { state = second i; persistent = (ap (hasBit 2) byte ∙ options .1) i };
+      logInterval = record { state = third i; persistent = (ap (hasBit 4) byte ∙ options .2) i };
+      history = history i;
+      index = index i;
+    }
+
+-- .. and the body of values in range holds
+pub body-holds : (s : Saved) → SavedFits s → inRange s ≡ true → bodyHolds (bodyBytes s) ≡ true
+unfolding bodyHolds
+body-holds s f r = rw (saved-back s f, same-refl (bodyBytes s)) r
+
+-- an entry is made of bytes
+pub bytes-body : (s : Saved) → Bytes (s .history) → Bytes (bodyBytes s)
+unfolding bodyBytes tableBytes
+bytes-body s b =
+    let table = tableFields (s .logInterval .state) (s .index) in
+    bytes-append (form headSize (headFields s)) (form tableHeadSize table ++ s .history) (bytes-form headSize (headFields s))
+    (bytes-append (form tableHeadSize table) (s .history) (bytes-form tableHeadSize table) b)
+
+pub bytes-trailer : (k : ℕ) → Bytes (trailerBytes k)
+unfolding trailerBytes
+bytes-trailer k = bytes-append (form 12 (trailerFields k)) tag (bytes-form 12 (trailerFields k)) letters
+  where
+    letters : Bytes tag
+    letters =
+        bytes-cons 0x53 (drop 1 tag) (omega arith)
+        (bytes-cons 0x43 (drop 2 tag) (omega arith) (bytes-cons 0x54 (drop 3 tag) (omega arith) (bytes-cons 0x45 [] (omega arith) bytes-nil)))
+
+-- what is read from a body of bytes fits
+pub read-fits : (b : List ℕ) → Bytes b → length b ≡ bodySize → SavedFits (savedIn b)
+unfolding savedIn
+read-fits b h e =
+    record {
+      native = get-fits 8 b 0 h;
+      visible = get-fits 8 b 8 h;
+      lifeMaximum = get-fits 1 b 17 h;
+      writeCache = get-fits 2 b 18 h;
+      reordering = get-fits 2 b 20 h;
+      logInterval = get-fits 2 b 22 h;
+      index = get-fits 2 b (headSize + 32) h;
+      whole = length-part b (headSize + tableHeadSize) historySize (omega arith);
+      readings = bytes-part b (headSize + tableHeadSize) historySize h;
+    }
+
+-- ---- "values in range"
+
+pub record Ranged (s : Saved) : Type 0 where
+  pub native : (1 ≤ s .native) × (s .native ≤ nativeLimit)
+  pub visible : (1 ≤ s .visible) × (s .visible ≤ s .native)
+  pub writeCache : StateValid 1 (s .writeCache)
+  pub reordering : StateValid 2 (s .reordering)
+  pub logInterval : StateValid 3 (s .logInterval)
+  pub index : s .index < historySize
+
+pub range-parts : (s : Saved) → inRange s ≡ true → Ranged s
+unfolding inRange
+range-parts s h =
+    let native = between 1 (s .native) nativeLimit in
+    let visible = between 1 (s .visible) (s .native) in
+    let first = between 1 (s .writeCache .state) (highestState 1) in
+    let second = between 1 (s .reordering .state) (highestState 2) in
+    let third = between 1 (s .logInterval .state) (highestState 3) in
+    let last = and-three (native && visible && first && second) third (ltb (s .index) historySize) h in
+    let middle = and-three (native && visible) first second (last .0) in
+    record {
+      native = between-true 1 (s .native) nativeLimit (and-left native visible (middle .0));
+      visible = between-true 1 (s .visible) (s .native) (and-right native visible (middle .0));
+      writeCache = between-true 1 (s .writeCache .state) (highestState 1) (middle .1);
+      reordering = between-true 1 (s .reordering .state) (highestState 2) (middle .2);
+      logInterval = between-true 1 (s .logInterval .state) (highestState 3) (last .1);
+      index = ltb-true (s .index) historySize (last .2);
+    }
+
+pub parts-range : (s : Saved) → Ranged s → inRange s ≡ true
+unfolding inRange
+parts-range s r =
+    rw (
+      between-within 1 (s .native) nativeLimit (r .native .0) (r .native .1),
+      between-within 1 (s .visible) (s .native) (r .visible .0) (r .visible .1),
+      between-within 1 (s .writeCache .state) (highestState 1) (r .writeCache .0) (r .writeCache .1),
+      between-within 1 (s .reordering .state) (highestState 2) (r .reordering .0) (r .reordering .1),
+      between-within 1 (s .logInterval .state) (highestState 3) (r .logInterval .0) (r .logInterval .1),
+      lt-ltb (s .index) historySize (r .index),
+    )
+
+-- values in range fit, with a life maximum and a history of bytes
+pub range-fits : (s : Saved) → Ranged s → s .lifeMaximum < 256 → length (s .history) ≡ historySize → Bytes (s .history) → SavedFits s
+range-fits s r m w b =
+    record {
+      native = omega arith;
+      visible = omega arith;
+      lifeMaximum = m;
+      writeCache = omega arith;
+      reordering = omega arith;
+      logInterval = omega arith;
+      index = omega arith;
+      whole = w;
+      readings = b;
+    }

@@ -1,0 +1,229 @@
+-- Laws of the saved image: every entry, the chain of trailers, and the form that an image is read in.
+use mathlib.Core.Path.{_≡_, refl, sym, ap, ap₂, _∙_}
+use mathlib.Core.Bool.{Bool, true, false, _&&_}
+use Prim.Native.Nat.{ℕ, zero, suc, _+_, _-_, _*_, _%_, _^_, _≤_, _<_}
+use native.Mathlib.Nat.{add-zero}
+use native.Mathlib.Omega.{arith}
+use mathlib.Core.List.{List, _++_}
+use lib.ListN.{length, drop, length-take, length-drop}
+use lib.Seq.{take-add, drop-drop}
+use lib.Dec.{eqb, leb}
+use borrow.Author.Tests.{eqb-true, eqb-false, leb-true, eq-eqb, ne-eqb, le-leb}
+use Rattle.wire.specs.Choice.{if_then_else_}
+use Rattle.wire.specs.Numbers.{get}
+use Rattle.wire.specs.Parts.{part}
+use Rattle.wire.specs.Layout.{form}
+use Rattle.wire.specs.Bytes.{Bytes, same}
+use Rattle.wire.proofs.ChoiceLaws.{and-left, and-right, and-both}
+use Rattle.wire.proofs.NumbersLaws.{get-append-left}
+use Rattle.wire.proofs.PartsLaws.{length-part, part-part, get-part, part-append-left, part-append-right}
+use Rattle.wire.proofs.LayoutLaws.{length-form, reads-form}
+use Rattle.wire.proofs.BytesLaws.{bytes-part, same-refl, same-true}
+use Rattle.model.specs.Sizes.{bodySize, trailerSize, entrySize, entryLimit}
+use Rattle.model.specs.Image.{Saved, bodyBytes, savedIn, inRange, bodyHolds, tag, trailerPlace, previousPlace, trailerFields, trailerBytes, bodyAt, trailerAt, entryHolds, every, entries, newest, readable, chainHolds}
+use Rattle.model.proofs.EntryLaws.{and-three, three-and, length-body, length-trailer, SavedFits, saved-back, body-holds, read-fits}
+
+-- ---- every entry, and the chain of trailers
+
+pub every-all : (n : ℕ) (f : ℕ → Bool) → every n f ≡ true → (k : ℕ) → 1 ≤ k → k ≤ n → f k ≡ true
+every-all zero f h k low high = absurd (omega arith)
+every-all (suc n) f h k low high = go (eqb k (suc n)) refl (every-all n f (and-right (f (suc n)) (every n f) h) k low)
+  where
+    go : (b : Bool) → eqb k (suc n) ≡ b → (k ≤ n → f k ≡ true) → f k ≡ true
+    go true e rest = ap f (eqb-true k (suc n) e) ∙ and-left (f (suc n)) (every n f) h
+    go false e rest = rest (let other = eqb-false k (suc n) e in omega arith)
+
+pub all-every : (n : ℕ) (f : ℕ → Bool) → ((k : ℕ) → 1 ≤ k → k ≤ n → f k ≡ true) → every n f ≡ true
+all-every zero f h = refl
+all-every (suc n) f h =
+    and-both (f (suc n)) (every n f) (h (suc n) (omega arith) (omega arith)) (all-every n f (λ k low high. h k low (omega arith)))
+
+-- the previous trailer of entry k + 1 is trailer k
+previous-place : (k : ℕ) → 1 ≤ k → previousPlace (suc k) ≡ trailerPlace k
+previous-place k h = rw (ne-eqb (suc k) 1 (omega arith)) (omega arith)
+
+trailer-reads : (k : ℕ) → k ≤ entryLimit → get 4 (trailerBytes k) 4 ≡ previousPlace k
+unfolding trailerBytes
+trailer-reads k h =
+    get-append-left 4 (form 12 (trailerFields k)) tag 4 (rw (length-form 12 (trailerFields k)) (omega arith))
+    ∙ reads-form 12 (trailerFields k) refl (omega arith, (below (eqb k 1), (omega arith, tt))) .1 .0
+  where
+    below : (b : Bool) → (if b then 0xFFFFFFFF else trailerPlace (k - 1)) < 256 ^ 4
+    below true = omega arith
+    below false = omega arith
+
+-- what the test of an entry says
+entry-held : (native : ℕ) (image : List ℕ) (k : ℕ) → entryHolds native image k ≡ true
+    → (bodyHolds (bodyAt image k) ≡ true) × (savedIn (bodyAt image k) .native ≡ native) × (trailerAt image k ≡ trailerBytes k)
+unfolding entryHolds
+entry-held native image k h =
+    let body = bodyAt image k in
+    let parts = and-three (bodyHolds body) (eqb (savedIn body .native) native) (same (trailerAt image k) (trailerBytes k)) h in
+    (parts .0, eqb-true (savedIn body .native) native (parts .1), same-true (trailerAt image k) (trailerBytes k) (parts .2))
+
+-- "follows the chain back": the trailer of an entry that holds leads to the one before
+previous-read : (native : ℕ) (image : List ℕ) (k : ℕ) → k ≤ entryLimit → entryHolds native image k ≡ true
+    → get 4 image (trailerPlace k + 4) ≡ previousPlace k
+previous-read native image k h e =
+    sym (get-part 4 image (trailerPlace k) trailerSize 4 (omega arith))
+    ∙ ap (λ (l : List ℕ). get 4 l 4) (entry-held native image k e .2)
+    ∙ trailer-reads k h
+
+-- The recursion from the last trailer says that every entry holds.
+pub chain-every : (native : ℕ) (image : List ℕ) (n : ℕ) → n ≤ entryLimit
+    → chainHolds native image n (previousPlace (suc n)) ≡ every n (entryHolds native image)
+unfolding chainHolds
+chain-every native image zero h = refl
+chain-every native image (suc k) h =
+    ap (λ (at : ℕ). chainHolds native image (suc k) at) (previous-place (suc k) (omega arith))
+    ∙ rw (eq-eqb (trailerPlace (suc k)) (trailerPlace (suc k)) refl) (go (entryHolds native image (suc k)) refl (chain-every native image k (omega arith)))
+  where
+    go : (b : Bool) → entryHolds native image (suc k) ≡ b → chainHolds native image k (previousPlace (suc k)) ≡ every k (entryHolds native image)
+        → (b && chainHolds native image k (get 4 image (trailerPlace (suc k) + 4))) ≡ (b && every k (entryHolds native image))
+    go false e rest = refl
+    go true e rest = rw (previous-read native image (suc k) h e) rest
+
+-- ---- the form of an image
+
+-- "Entries of 560 bytes: 544 of body, a 16-byte trailer at the end": entry k, of values in range that fit, with the disk's N.
+pub record EntryForm (native : ℕ) (image : List ℕ) (k : ℕ) : Type 0 where
+  pub saved : Saved
+  pub fits : SavedFits saved
+  pub ranged : inRange saved ≡ true
+  pub sameNative : saved .native ≡ native
+  pub bytes : part image (entrySize * (k - 1)) entrySize ≡ bodyBytes saved ++ trailerBytes k
+
+-- "The used length is a multiple of 560, at most 65,520; all entries have the same N."
+pub record ImageForm (image : List ℕ) (used : ℕ) : Type 0 where
+  pub native : ℕ
+  pub number : ℕ
+  pub usedLength : used ≡ entrySize * number
+  pub most : number ≤ entryLimit
+  pub each : (k : ℕ) → 1 ≤ k → k ≤ number → EntryForm native image k
+
+-- the places of a body and of a trailer, from the entry's first byte
+body-place : (k : ℕ) → 1 ≤ k → trailerPlace k - bodySize ≡ entrySize * (k - 1)
+body-place k h = omega arith
+
+trailer-place : (k : ℕ) → 1 ≤ k → trailerPlace k ≡ entrySize * (k - 1) + bodySize
+trailer-place k h = omega arith
+
+-- an entry is its body and then its trailer
+entry-parts : (image : List ℕ) (k : ℕ) → 1 ≤ k → part image (entrySize * (k - 1)) entrySize ≡ bodyAt image k ++ trailerAt image k
+entry-parts image k h =
+    take-add bodySize trailerSize (drop (entrySize * (k - 1)) image)
+    ∙ rw (drop-drop bodySize (entrySize * (k - 1)) image, body-place k h, trailer-place k h)
+
+-- the body and the trailer of an entry that has the form
+body-formed : (native : ℕ) (image : List ℕ) (k : ℕ) → 1 ≤ k → (e : EntryForm native image k) → bodyAt image k ≡ bodyBytes (e .saved)
+body-formed native image k h e =
+    ap (λ (at : ℕ). part image at bodySize) (body-place k h ∙ sym (add-zero (entrySize * (k - 1))))
+    ∙ sym (part-part image (entrySize * (k - 1)) entrySize 0 bodySize (omega arith))
+    ∙ ap (λ (l : List ℕ). part l 0 bodySize) (e .bytes)
+    ∙ part-append-left (bodyBytes (e .saved)) (trailerBytes k) bodySize (length-body (e .saved) (e .fits .whole))
+
+trailer-formed : (native : ℕ) (image : List ℕ) (k : ℕ) → 1 ≤ k → EntryForm native image k → trailerAt image k ≡ trailerBytes k
+trailer-formed native image k h e =
+    ap (λ (at : ℕ). part image at trailerSize) (trailer-place k h)
+    ∙ sym (part-part image (entrySize * (k - 1)) entrySize bodySize trailerSize (omega arith))
+    ∙ ap (λ (l : List ℕ). part l bodySize trailerSize) (e .bytes)
+    ∙ part-append-right (bodyBytes (e .saved)) (trailerBytes k) bodySize trailerSize (length-body (e .saved) (e .fits .whole)) (length-trailer k)
+
+-- what such an entry says, and that it holds
+pub form-saved : (native : ℕ) (image : List ℕ) (k : ℕ) → 1 ≤ k → (e : EntryForm native image k) → savedIn (bodyAt image k) ≡ e .saved
+form-saved native image k h e = ap savedIn (body-formed native image k h e) ∙ saved-back (e .saved) (e .fits)
+
+pub form-holds : (native : ℕ) (image : List ℕ) (k : ℕ) → 1 ≤ k → EntryForm native image k → entryHolds native image k ≡ true
+unfolding entryHolds
+form-holds native image k h e =
+    three-and (bodyHolds (bodyAt image k)) (eqb (savedIn (bodyAt image k) .native) native) (same (trailerAt image k) (trailerBytes k))
+    (rw (body-formed native image k h e) (body-holds (e .saved) (e .fits) (e .ranged)))
+    (eq-eqb (savedIn (bodyAt image k) .native) native (ap (λ (s : Saved). s .native) (form-saved native image k h e) ∙ e .sameNative))
+    (rw (trailer-formed native image k h e) (same-refl (trailerBytes k)))
+
+-- a part that has its whole length lies within the run
+part-within : (l : List ℕ) (b n : ℕ) → 0 < n → length (part l b n) ≡ n → b + n ≤ length l
+part-within l b n p e = omega (arith, rw (length-take, length-drop) at e)
+
+-- a body that holds is the body of what it says, in range
+body-parts : (b : List ℕ) → bodyHolds b ≡ true → (bodyBytes (savedIn b) ≡ b) × (inRange (savedIn b) ≡ true)
+unfolding bodyHolds
+body-parts b h =
+    let again = same (bodyBytes (savedIn b)) b in
+    (same-true (bodyBytes (savedIn b)) b (and-left again (inRange (savedIn b)) h), and-right again (inRange (savedIn b)) h)
+
+-- an entry that holds has the form
+pub holds-form : (native : ℕ) (image : List ℕ) (k : ℕ) → 1 ≤ k → Bytes image → entryHolds native image k ≡ true → EntryForm native image k
+holds-form native image k h b e =
+    let parts = entry-held native image k e in
+    let body = body-parts (bodyAt image k) (parts .0) in
+    let within = part-within image (trailerPlace k) trailerSize (omega arith) (ap length (parts .2) ∙ length-trailer k) in
+    record {
+      saved = savedIn (bodyAt image k);
+      fits =
+          read-fits (bodyAt image k) (bytes-part image (trailerPlace k - bodySize) bodySize b)
+          (length-part image (trailerPlace k - bodySize) bodySize (omega arith));
+      ranged = body .1;
+      sameNative = parts .1;
+      bytes = entry-parts image k h ∙ ap₂ (λ (x y : List ℕ). x ++ y) (sym (body .0)) (parts .2);
+    }
+
+-- the three parts of a readable image
+pub record Readable (image : List ℕ) (used : ℕ) : Type 0 where
+  pub multiple : used % entrySize ≡ 0
+  pub most : used ≤ entrySize * entryLimit
+  pub each : (k : ℕ) → 1 ≤ k → k ≤ entries used → entryHolds (newest image used .native) image k ≡ true
+
+pub readable-parts : (image : List ℕ) (used : ℕ) → readable image used ≡ true → Readable image used
+unfolding readable
+readable-parts image used h =
+    let holds = entryHolds (newest image used .native) image in
+    let parts = and-three (eqb (used % entrySize) 0) (leb used (entrySize * entryLimit)) (every (entries used) holds) h in
+    record {
+      multiple = eqb-true (used % entrySize) 0 (parts .0);
+      most = leb-true used (entrySize * entryLimit) (parts .1);
+      each = every-all (entries used) holds (parts .2);
+    }
+
+pub parts-readable : (image : List ℕ) (used : ℕ) → Readable image used → readable image used ≡ true
+unfolding readable
+parts-readable image used r =
+    let holds = entryHolds (newest image used .native) image in
+    three-and (eqb (used % entrySize) 0) (leb used (entrySize * entryLimit)) (every (entries used) holds)
+    (eq-eqb (used % entrySize) 0 (r .multiple))
+    (le-leb used (entrySize * entryLimit) (r .most))
+    (all-every (entries used) holds (r .each))
+
+-- THEOREM: an image of bytes is readable exactly where it has the form.
+pub readable-form : (image : List ℕ) (used : ℕ) → Bytes image → readable image used ≡ true → ImageForm image used
+readable-form image used b h =
+    let r = readable-parts image used h in
+    let multiple = r .multiple in
+    let most = r .most in
+    record {
+      native = newest image used .native;
+      number = entries used;
+      usedLength = omega arith;
+      most = omega arith;
+      each = λ k low high. holds-form (newest image used .native) image k low b (r .each k low high);
+    }
+
+pub form-readable : (image : List ℕ) (used : ℕ) → ImageForm image used → readable image used ≡ true
+form-readable image used f =
+    parts-readable image used
+    (
+    record {
+      multiple = omega (arith, f .usedLength);
+      most = omega (arith, f .usedLength, f .most);
+      each = λ k low high. rw (native (omega (arith, number))) (form-holds (f .native) image k low (f .each k low (rw number at high)));
+    }
+    )
+  where
+    number : entries used ≡ f .number
+    number = omega (arith, f .usedLength)
+
+    native : 1 ≤ f .number → newest image used .native ≡ f .native
+    native h =
+        ap (λ (n : ℕ). savedIn (bodyAt image n) .native) number
+        ∙ ap (λ (s : Saved). s .native) (form-saved (f .native) image (f .number) h (f .each (f .number) h (omega arith)))
+        ∙ f .each (f .number) h (omega arith) .sameNative

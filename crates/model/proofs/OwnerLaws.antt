@@ -1,0 +1,73 @@
+-- Laws of stopping a fill, of lock, unlock and set V.
+use mathlib.Core.Path.{_≡_, refl, sym, ap, _∙_}
+use mathlib.Core.Bool.{Bool, true, false, _&&_, and-true, and-false}
+use Prim.Native.Nat.{ℕ, zero, suc, _≤_, _<_}
+use native.Mathlib.Omega.{arith}
+use mathlib.Core.List.{List, [], _∷_}
+use lib.Dec.{eqb}
+use borrow.Author.Tests.{eq-eqb, ne-eqb}
+use Rattle.wire.specs.Choice.{between}
+use Rattle.wire.proofs.ChoiceLaws.{between-within, pass-all}
+use Rattle.model.specs.Device.{Fill, idle, running, Device}
+use Rattle.model.specs.Fill.{nothingPending, stopFill, interrupt}
+use Rattle.model.specs.Owner.{setLock}
+use Rattle.model.specs.Owner.{setVisible as setVisibleDevice}
+use Rattle.model.specs.Machine.{Machine}
+use Rattle.model.specs.Step.{Step, lock, unlock, setVisible, Outcome, checks, does, seen, step}
+use Rattle.model.proofs.StepLaws.{step-done}
+use Rattle.model.proofs.RequestLaws.{interrupt-kept}
+
+-- no fill runs, and nothing is pending
+pub record Quiet (d : Device) : Type 0 where
+  pub noFill : d .command .fill ≡ idle
+  pub noTransfer : d .command .pending ≡ nothingPending
+
+pub interrupt-quiet : (d : Device) → Quiet (interrupt d)
+unfolding interrupt
+interrupt-quiet d = record { noFill = go (d .command .fill) refl; noTransfer = refl }
+  where
+    go : (f : Fill) → d .command .fill ≡ f → stopFill f d .command .fill ≡ idle
+    go idle e = e
+    go (running first next end) e = refl
+
+-- "stops a running fill (code 0008h)"
+pub interrupt-code-running : (d : Device) (first next end : ℕ) → d .command .fill ≡ running first next end → interrupt d .command .code ≡ 0x0008
+unfolding interrupt
+interrupt-code-running d first next end e = rw e
+
+-- "stored code unchanged unless a fill was stopped"
+pub interrupt-code-idle : (d : Device) → d .command .fill ≡ idle → interrupt d .command .code ≡ d .command .code
+unfolding interrupt
+interrupt-code-idle d e = ap (λ (f : Fill). stopFill f d .command .code) e
+
+-- ---- "Locking, unlocking and setting V do the same as other requests"
+
+pub lock-quiet : (M : Machine) → Quiet (step lock M .state .device) × (step lock M .state .device .locked ≡ true)
+unfolding step setLock
+lock-quiet M = let q = interrupt-quiet (M .device) in (record { noFill = q .noFill; noTransfer = q .noTransfer }, refl)
+
+pub unlock-quiet : (M : Machine) → Quiet (step unlock M .state .device) × (step unlock M .state .device .locked ≡ false)
+unfolding step setLock
+unlock-quiet M = let q = interrupt-quiet (M .device) in (record { noFill = q .noFill; noTransfer = q .noTransfer }, refl)
+
+module _ (v : ℕ) (M : Machine) (some : 1 ≤ v) (most : v ≤ M .device .native) where
+  visible-set : step (setVisible v) M ≡ record { state = does (setVisible v) M; seen = seen (setVisible v) M }
+  visible-set = step-done (setVisible v) M (pass-all (checks (setVisible v) M) (between-within 1 v (M .device .native) some most, tt))
+
+  -- a fill is not carried on after V changed
+  pub visible-quiet : Quiet (step (setVisible v) M .state .device)
+  unfolding setVisibleDevice
+  visible-quiet = let q = interrupt-quiet (M .device) in rw visible-set (record { noFill = q .noFill; noTransfer = q .noTransfer })
+
+  pub visible-is : step (setVisible v) M .state .device .visible ≡ v
+  unfolding setVisibleDevice
+  visible-is = rw visible-set
+
+  -- "cleared .. by a changed V"; the same V keeps it
+  pub visible-changed : (v ≡ M .device .visible → ⊥) → step (setVisible v) M .state .device .initialized ≡ false
+  unfolding setVisibleDevice
+  visible-changed ne = rw (visible-set, ne-eqb v (M .device .visible) ne) (and-false (M .device .initialized))
+
+  pub visible-same : v ≡ M .device .visible → step (setVisible v) M .state .device .initialized ≡ M .device .initialized
+  unfolding setVisibleDevice
+  visible-same e = rw (visible-set, eq-eqb v (M .device .visible) e) (and-true (M .device .initialized))

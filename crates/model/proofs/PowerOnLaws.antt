@@ -1,0 +1,174 @@
+-- Laws of power-on: the device that it gives is valid, and what is kept over power.
+use mathlib.Core.Path.{_≡_, refl, ap, _∙_}
+use mathlib.Core.Bool.{Bool, true, false}
+use mathlib.Core.Logic.{inl}
+use Prim.Native.Nat.{ℕ, _≤_, _<_}
+use native.Mathlib.Omega.{arith}
+use mathlib.Core.List.{List}
+use lib.ListN.{length, length-replicate}
+use lib.Dec.{eqb}
+use borrow.Author.Tests.{eq-eqb, ne-eqb}
+use Rattle.wire.specs.Choice.{if_then_else_}
+use Rattle.wire.specs.Bytes.{Bytes}
+use Rattle.wire.proofs.BytesLaws.{bytes-replicate}
+use Rattle.model.specs.Sizes.{nativeLimit, historySize, missing}
+use Rattle.model.specs.Device.{idle, Feature, Device}
+use Rattle.model.specs.Key.{highestState}
+use Rattle.model.specs.Temperature.{emptyHistory, emptyIndex}
+use Rattle.model.specs.Fill.{nothingPending}
+use Rattle.model.specs.Image.{Saved, savedIn, inRange, bodyAt, entries, newest, readable, blank, kept, powerOnThermal, powerOn}
+use Rattle.model.specs.Valid.{StateValid, ThermalValid, Valid}
+use Rattle.model.proofs.EntryLaws.{SavedFits, Ranged, range-parts, parts-range, range-fits}
+use Rattle.model.proofs.ImageLaws.{form-saved, readable-form}
+
+-- ---- the device at power-on is valid
+
+kept-valid : (n : ℕ) (f : Feature) → 1 ≤ highestState n → StateValid n f → StateValid n (kept f)
+kept-valid n f top v = go (f .persistent)
+  where
+    go : (b : Bool) → (1 ≤ (if b then f .state else 1)) × ((if b then f .state else 1) ≤ highestState n)
+    go true = v
+    go false = (omega arith, top)
+
+length-empty : length emptyHistory ≡ historySize
+length-empty = length-replicate historySize missing
+
+bytes-empty : Bytes emptyHistory
+bytes-empty = bytes-replicate historySize missing (omega arith)
+
+thermal-valid : (s : Saved) → SavedFits s → Ranged s → ThermalValid (kept (s .logInterval) .state) (powerOnThermal s)
+thermal-valid s f r =
+    record {
+      minutesValid = kept-valid 3 (s .logInterval) (omega arith) (r .logInterval) .0;
+      indexValid = index same;
+      whole = whole same;
+      readings = readings same;
+      bytes = (omega arith, omega arith, f .lifeMaximum);
+    }
+  where
+    same : Bool
+    same = eqb (kept (s .logInterval) .state) (s .logInterval .state)
+
+    index : (b : Bool) → (if b then s .index else emptyIndex) < historySize
+    index true = r .index
+    index false = omega arith
+
+    whole : (b : Bool) → length (if b then s .history else emptyHistory) ≡ historySize
+    whole true = f .whole
+    whole false = length-empty
+
+    readings : (b : Bool) → Bytes (if b then s .history else emptyHistory)
+    readings true = f .readings
+    readings false = bytes-empty
+
+pub power-on-valid : (s : Saved) → SavedFits s → inRange s ≡ true → Valid (powerOn s)
+unfolding powerOn
+power-on-valid s f h =
+    let r = range-parts s h in
+    record {
+      sizes = (r .visible .0, r .visible .1, r .native .1);
+      commandValid =
+          record {
+            codeValid = λ e. omega arith;
+            fillValid = tt;
+            pendingValid = (tt, (tt, (tt, (tt, tt))));
+            onlyOne = omega arith;
+            places = refl;
+            words = omega arith;
+          };
+      settingsValid =
+          record {
+            readValid = inl refl;
+            writeValid = inl refl;
+            cacheValid = kept-valid 1 (s .writeCache) (omega arith) (r .writeCache);
+            reorderingValid = kept-valid 2 (s .reordering) (omega arith) (r .reordering);
+            intervalValid = kept-valid 3 (s .logInterval) (omega arith) (r .logInterval);
+            words = omega arith;
+          };
+      thermalValid = thermal-valid s f r;
+    }
+
+-- ---- what power-on starts from: a blank device, or the newest entry
+
+blank-range : (native : ℕ) → 1 ≤ native → native ≤ nativeLimit → Ranged (blank native)
+blank-range native low high = omega arith
+
+pub blank-ranged : (native : ℕ) → 1 ≤ native → native ≤ nativeLimit → inRange (blank native) ≡ true
+blank-ranged native low high = parts-range (blank native) (blank-range native low high)
+
+pub blank-fits : (native : ℕ) → 1 ≤ native → native ≤ nativeLimit → SavedFits (blank native)
+blank-fits native low high = range-fits (blank native) (blank-range native low high) (omega arith) length-empty bytes-empty
+
+newest-form : (image : List ℕ) (used : ℕ) → Bytes image → readable image used ≡ true → (used ≡ 0 → ⊥)
+    → (s : Saved) × (newest image used ≡ s) × SavedFits s × (inRange s ≡ true)
+newest-form image used b h n =
+    let f = readable-form image used b h in
+    let number : entries used ≡ f .number = omega (arith, f .usedLength) in
+    let low : 1 ≤ f .number = omega (arith, f .usedLength) in
+    let e = f .each (f .number) low (omega arith) in (
+      e .saved,
+      ap (λ (n : ℕ). savedIn (bodyAt image n)) number ∙ form-saved (f .native) image (f .number) low e,
+      e .fits,
+      e .ranged,
+    )
+
+pub newest-fits : (image : List ℕ) (used : ℕ) → Bytes image → readable image used ≡ true → (used ≡ 0 → ⊥) → SavedFits (newest image used)
+newest-fits image used b h n = let f = newest-form image used b h n in rw (f .1) (f .2)
+
+pub newest-ranged : (image : List ℕ) (used : ℕ) → Bytes image → readable image used ≡ true → (used ≡ 0 → ⊥) → inRange (newest image used) ≡ true
+newest-ranged image used b h n = let f = newest-form image used b h n in rw (f .1) (f .3)
+
+-- ---- what is kept over power
+
+-- "Option 1 keeps a state over power; other states return to 1."
+pub record FeatureKept (before after : Feature) : Type 0 where
+  pub option : after .persistent ≡ before .persistent
+  pub persistentState : before .persistent ≡ true → after .state ≡ before .state
+  pub otherState : before .persistent ≡ false → after .state ≡ 1
+
+-- d is the device at power-on from what was saved.
+pub record KeptRules (s : Saved) (d : Device) : Type 0 where
+  -- "Timers return to 0 at power-on."
+  pub timers : (d .settings .readTimer ≡ 0) × (d .settings .writeTimer ≡ 0)
+  pub writeCache : FeatureKept (s .writeCache) (d .settings .writeCache)
+  pub reordering : FeatureKept (s .reordering) (d .settings .reordering)
+  pub logInterval : FeatureKept (s .logInterval) (d .settings .logInterval)
+  -- "The history is kept if the interval after power-on equals the saved one; minutes are 0."
+  pub historyKept : d .settings .logInterval .state ≡ s .logInterval .state → (d .thermal .history ≡ s .history) × (d .thermal .index ≡ s .index)
+  pub historyEmpty : (d .settings .logInterval .state ≡ s .logInterval .state → ⊥) → (d .thermal .history ≡ emptyHistory) × (d .thermal .index ≡ 477)
+  pub minutes : d .thermal .minutes ≡ 0
+  -- ".. with "now" and this cycle's maximum missing."
+  pub temperatures : (d .thermal .now ≡ 0x80) × (d .thermal .cycleMaximum ≡ 0x80)
+  pub asSaved : (d .native ≡ s .native) × (d .visible ≡ s .visible) × (d .initialized ≡ s .initialized) × (d .thermal .lifeMaximum ≡ s .lifeMaximum)
+  -- "Unlocked, no fill, nothing owed, .. code, action and function 0"
+  pub unlocked : d .locked ≡ false
+  pub noFill : d .command .fill ≡ idle
+  pub noTransfer : d .command .pending ≡ nothingPending
+  pub command : (d .command .code ≡ 0) × (d .command .action ≡ 0) × (d .command .function ≡ 0)
+
+feature-kept : (f : Feature) → FeatureKept f (kept f)
+feature-kept f = record { option = refl; persistentState = λ e. rw e; otherState = λ e. rw e }
+
+-- THEOREM: every rule of power-on holds, whatever was saved.
+pub kept-rules : (s : Saved) → KeptRules s (powerOn s)
+unfolding powerOn
+kept-rules s =
+    record {
+      timers = (refl, refl);
+      writeCache = feature-kept (s .writeCache);
+      reordering = feature-kept (s .reordering);
+      logInterval = feature-kept (s .logInterval);
+      historyKept = λ e. chosen true (eq-eqb (kept (s .logInterval) .state) (s .logInterval .state) e);
+      historyEmpty = λ e. chosen false (ne-eqb (kept (s .logInterval) .state) (s .logInterval .state) e);
+      minutes = refl;
+      temperatures = (refl, refl);
+      asSaved = (refl, refl, refl, refl);
+      unlocked = refl;
+      noFill = refl;
+      noTransfer = refl;
+      command = (refl, refl, refl);
+    }
+  where
+    chosen : (b : Bool) → eqb (kept (s .logInterval) .state) (s .logInterval .state) ≡ b
+        → (powerOnThermal s .history ≡ (if b then s .history else emptyHistory)) × (powerOnThermal s .index ≡ (if b then s .index else emptyIndex))
+    chosen b e = (rw e, rw e)

@@ -1,0 +1,206 @@
+-- Laws of a save: it adds one entry and leaves every other byte, and power-on reads back what was saved.
+use mathlib.Core.Path.{_≡_, refl, sym, ap, _∙_}
+use mathlib.Core.Bool.{Bool, true, false, _||_}
+use Prim.Native.Nat.{ℕ, suc, _+_, _-_, _*_, _/_, _%_, _≤_, _<_}
+use native.Mathlib.Omega.{arith}
+use mathlib.Core.List.{List, _++_}
+use lib.ListN.{length, getD, length-append}
+use lib.Seq.{length-sets}
+use lib.Dec.{eqb, leb, ltb}
+use borrow.Author.Tests.{eqb-true, leb-true, ltb-true, eq-eqb, le-leb, ne-eqb, eqb-false}
+use Rattle.wire.specs.Choice.{between, firstFailed}
+use Rattle.wire.specs.Parts.{part}
+use Rattle.wire.specs.Bytes.{Bytes}
+use Rattle.wire.proofs.ChoiceLaws.{and-left, and-right, and-both, between-within, all-pass, pass-all}
+use Rattle.wire.proofs.NumbersLaws.{getD-sets-before, getD-sets-after}
+use Rattle.wire.proofs.PartsLaws.{part-before, part-same}
+use Rattle.wire.proofs.BytesLaws.{bytes-sets, bytes-append}
+use Rattle.model.specs.Sizes.{sectorSize, nativeLimit, bodySize, trailerSize, entrySize, entryLimit, imageFull}
+use Rattle.model.specs.Device.{Device}
+use Rattle.model.specs.Valid.{Valid}
+use Rattle.model.specs.Image.{Saved, savedFrom, bodyBytes, savedIn, inRange, trailerBytes, bodyAt, trailerPlace, entryHolds, entries, newest, readable, sameDisk, saveChecks, savedImage, powerOnChecks, restored}
+use Rattle.model.proofs.EntryLaws.{bytes-body, bytes-trailer, length-body, length-trailer, SavedFits, Ranged, parts-range, range-fits}
+use Rattle.model.proofs.ImageLaws.{EntryForm, form-saved, form-holds, Readable, readable-parts, parts-readable}
+
+-- ---- what a valid device saves
+
+saved-range : (d : Device) → Valid d → Ranged (savedFrom d)
+unfolding savedFrom
+saved-range d v =
+    record {
+      native = omega (arith, v .sizes);
+      visible = omega (arith, v .sizes);
+      writeCache = v .settingsValid .cacheValid;
+      reordering = v .settingsValid .reorderingValid;
+      logInterval = v .settingsValid .intervalValid;
+      index = v .thermalValid .indexValid;
+    }
+
+pub saved-ranged : (d : Device) → Valid d → inRange (savedFrom d) ≡ true
+saved-ranged d v = parts-range (savedFrom d) (saved-range d v)
+
+pub saved-fits : (d : Device) → Valid d → SavedFits (savedFrom d)
+unfolding savedFrom
+saved-fits d v =
+    let t = v .thermalValid in
+    range-fits (savedFrom d) (saved-range d v) (t .bytes .2) (t .whole) (t .readings)
+
+or-right : (a b : Bool) → b ≡ true → (a || b) ≡ true
+or-right true b h = refl
+or-right false b h = h
+
+-- ---- the image after a save
+
+-- the entry that a save adds
+abbrev added : Device → ℕ → List ℕ
+added d used = bodyBytes (savedFrom d) ++ trailerBytes (suc (entries used))
+
+length-added : (d : Device) (used : ℕ) → Valid d → length (added d used) ≡ entrySize
+length-added d used v =
+    length-append (bodyBytes (savedFrom d)) (trailerBytes (suc (entries used)))
+    ∙ rw (length-body (savedFrom d) (saved-fits d v .whole), length-trailer (suc (entries used)))
+
+bytes-added : (d : Device) (used : ℕ) → Valid d → Bytes (added d used)
+bytes-added d used v =
+    bytes-append (bodyBytes (savedFrom d)) (trailerBytes (suc (entries used)))
+    (bytes-body (savedFrom d) (saved-fits d v .readings))
+    (bytes-trailer (suc (entries used)))
+
+pub length-saved : (d : Device) (image : List ℕ) (used : ℕ) → length (savedImage d image used) ≡ length image
+unfolding savedImage
+length-saved d image used = length-sets image used (added d used)
+
+pub bytes-saved : (d : Device) (image : List ℕ) (used : ℕ) → Valid d → Bytes image → Bytes (savedImage d image used)
+unfolding savedImage
+bytes-saved d image used v b = bytes-sets (added d used) image used b (bytes-added d used v)
+
+-- "other bytes stay": those before the used length, and those behind the new one
+pub saved-before : (d : Device) (image : List ℕ) (used i : ℕ) → i < used → getD (savedImage d image used) i 0 ≡ getD image i 0
+unfolding savedImage
+saved-before d image used i h = getD-sets-before (added d used) image used i h
+
+pub saved-after : (d : Device) (image : List ℕ) (used i : ℕ) → Valid d → used + entrySize ≤ i → getD (savedImage d image used) i 0 ≡ getD image i 0
+unfolding savedImage
+saved-after d image used i v h = getD-sets-after (added d used) image used i (rw (length-added d used v) h)
+
+-- the entries before hold as they did
+entry-before : (d : Device) (image : List ℕ) (used native k : ℕ) → 1 ≤ k → entrySize * k ≤ used
+    → entryHolds native (savedImage d image used) k ≡ entryHolds native image k
+unfolding savedImage entryHolds
+entry-before d image used native k low h =
+    rw (
+      part-before (added d used) image used (trailerPlace k - bodySize) bodySize (omega arith),
+      part-before (added d used) image used (trailerPlace k) trailerSize (omega arith),
+    )
+
+-- ---- a save that passes its checks, and the power-on after it
+
+-- what the checks of a save say
+pub record SaveAccepted (native : ℕ) (image : List ℕ) (used : ℕ) : Type 0 where
+  pub readableBefore : Readable image used
+  pub ownDisk : sameDisk native image used ≡ true
+  pub few : entries used < entryLimit
+  pub room : used + entrySize ≤ length image
+
+pub save-accepted : (native : ℕ) (image : List ℕ) (used : ℕ) → firstFailed (saveChecks native image used) ≡ 0 → SaveAccepted native image used
+save-accepted native image used e =
+    let few = ltb (entries used) entryLimit in
+    let room = leb (used + entrySize) (length image) in
+    let pass = all-pass imageFull (saveChecks native image used) (omega arith) e in
+    record {
+      readableBefore = readable-parts image used (pass .1 .0);
+      ownDisk = pass .1 .1 .0;
+      few = ltb-true (entries used) entryLimit (and-left few room (pass .1 .1 .1 .0));
+      room = leb-true (used + entrySize) (length image) (and-right few room (pass .1 .1 .1 .0));
+    }
+
+entries-after : (used : ℕ) → entries (used + entrySize) ≡ suc (entries used)
+entries-after used = omega arith
+
+module _ (d : Device) (image : List ℕ) (used : ℕ) (valid : Valid d) (passed : firstFailed (saveChecks (d .native) image used) ≡ 0) where
+  accepted : SaveAccepted (d .native) image used
+  accepted = save-accepted (d .native) image used passed
+
+  -- the entry that a save adds has the form
+  new-entry : EntryForm (d .native) (savedImage d image used) (suc (entries used))
+  unfolding savedImage savedFrom
+  new-entry =
+      let multiple = accepted .readableBefore .multiple in
+      let place : entrySize * (suc (entries used) - 1) ≡ used = omega arith in
+      record {
+        saved = savedFrom d;
+        fits = saved-fits d valid;
+        ranged = saved-ranged d valid;
+        sameNative = refl;
+        bytes =
+            ap (λ (at : ℕ). part (savedImage d image used) at entrySize) place
+            ∙ part-same (added d used) image used entrySize (length-added d used valid) (accepted .room);
+      }
+
+  -- the newest entry is what was saved
+  pub newest-saved : newest (savedImage d image used) (used + entrySize) ≡ savedFrom d
+  unfolding new-entry
+  newest-saved =
+      ap (λ (n : ℕ). savedIn (bodyAt (savedImage d image used) n)) (entries-after used)
+      ∙ form-saved (d .native) (savedImage d image used) (suc (entries used)) (omega arith) new-entry
+
+  newest-native : newest (savedImage d image used) (used + entrySize) .native ≡ d .native
+  unfolding savedFrom
+  newest-native = ap (λ (s : Saved). s .native) newest-saved
+
+  -- the entries before are this disk's
+  native-before : 1 ≤ entries used → newest image used .native ≡ d .native
+  native-before h =
+      eqb-true (newest image used .native) (d .native) (rw (ne-eqb used 0 (omega arith)) at (accepted .ownDisk))
+
+  -- every entry of the new image holds
+  each-holds : (k : ℕ) → 1 ≤ k → k ≤ suc (entries used) → entryHolds (d .native) (savedImage d image used) k ≡ true
+  each-holds k low high = go (eqb k (suc (entries used))) refl
+    where
+      go : (b : Bool) → eqb k (suc (entries used)) ≡ b → entryHolds (d .native) (savedImage d image used) k ≡ true
+      go true e =
+          ap (entryHolds (d .native) (savedImage d image used)) (eqb-true k (suc (entries used)) e)
+          ∙ form-holds (d .native) (savedImage d image used) (suc (entries used)) (omega arith) new-entry
+      go false e =
+          let other = eqb-false k (suc (entries used)) e in
+          entry-before d image used (d .native) k low (omega arith)
+          ∙ ap (λ (n : ℕ). entryHolds n image k) (sym (native-before (omega arith)))
+          ∙ accepted .readableBefore .each k low (omega arith)
+
+  pub readable-saved : readable (savedImage d image used) (used + entrySize) ≡ true
+  readable-saved =
+      let multiple = accepted .readableBefore .multiple in
+      let few = accepted .few in
+      parts-readable (savedImage d image used) (used + entrySize)
+      (
+      record {
+        multiple = omega arith;
+        most = omega arith;
+        each = λ k low high. rw newest-native (each-holds k low (rw entries-after at high));
+      }
+      )
+
+  pub same-disk-saved : sameDisk (d .native) (savedImage d image used) (used + entrySize) ≡ true
+  same-disk-saved =
+      or-right (eqb (used + entrySize) 0) (eqb (newest (savedImage d image used) (used + entrySize) .native) (d .native))
+      (eq-eqb (newest (savedImage d image used) (used + entrySize) .native) (d .native) newest-native)
+
+  pub restored-saved : restored (d .native) (savedImage d image used) (used + entrySize) ≡ savedFrom d
+  unfolding restored
+  restored-saved = rw (ne-eqb (used + entrySize) 0 (omega arith)) newest-saved
+
+  -- THEOREM: after a save, power-on with the new image passes its checks (and restores what was saved, by restored-saved).
+  pub power-on-after-save : (disk : List ℕ) → length disk ≡ sectorSize * d .native
+      → firstFailed (powerOnChecks disk (savedImage d image used) (used + entrySize)) ≡ 0
+  power-on-after-save disk e =
+      let sizes = valid .sizes in
+      let count : length disk / sectorSize ≡ d .native = omega arith in
+      pass-all (powerOnChecks disk (savedImage d image used) (used + entrySize)) (
+        and-both (eqb (length disk % sectorSize) 0) (between 1 (length disk / sectorSize) nativeLimit)
+            (eq-eqb (length disk % sectorSize) 0 (omega arith))
+            (between-within 1 (length disk / sectorSize) nativeLimit (omega arith) (omega arith)),
+        (
+          le-leb (used + entrySize) (length (savedImage d image used)) (rw (length-saved d image used) (accepted .room)),
+          (readable-saved, (rw count same-disk-saved, tt)),
+        ),
+      )

@@ -1,0 +1,98 @@
+-- Laws of temperatures: maxima by signed value, missing samples, and where a reading is logged.
+use mathlib.Core.Path.{_≡_, refl, sym, ap, _∙_}
+use mathlib.Core.Bool.{Bool, true, false}
+use mathlib.Core.Logic.{_⊎_, inl, inr}
+use Prim.Native.Nat.{ℕ, zero, suc, _+_, _-_, _*_, _≤_, _<_}
+use native.Mathlib.Omega.{arith}
+use mathlib.Core.List.{List, [], _∷_}
+use lib.ListN.{length, getD, set}
+use lib.Seq.{getD-set-same, getD-set-other}
+use lib.IntN.{ℤ, pos, negsuc}
+use lib.Signed.{leZ, _≤ℤ_, ≤ℤ-refl}
+use lib.Dec.{T, eqb, leb, ltb, le→leb}
+use borrow.Author.Tests.{eqb-true, eq-eqb, ne-eqb, leb-false, le-leb, lt-ltb, le-ltb}
+use Rattle.wire.specs.Choice.{if_then_else_}
+use Rattle.model.specs.Sizes.{historySize, missing}
+use Rattle.model.specs.Device.{Thermal}
+use Rattle.model.specs.Temperature.{signed, newMaximum, nextIndex, sampled}
+
+-- ---- the maximum
+
+leZ-below : (a b : ℤ) → leZ a b ≡ true → a ≤ℤ b
+leZ-below a b e = record { le = rw e tt }
+
+leZ-above : (a b : ℤ) → leZ a b ≡ false → b ≤ℤ a
+leZ-above (pos a) (pos b) e = let h = leb-false a b e in record { le = le→leb b a (omega arith) }
+leZ-above (pos a) (negsuc b) e = record { le = tt }
+leZ-above (negsuc a) (pos b) e = absurd (let z : _≡_ {A = ℕ} 0 1 = cc in omega arith)
+leZ-above (negsuc a) (negsuc b) e = let h = leb-false b a e in record { le = le→leb a b (omega arith) }
+
+-- Of two real readings the new maximum is one, and by signed value neither is above it.
+pub record Greater (sample old new : ℕ) : Type 0 where
+  pub isOne : (new ≡ sample) ⊎ (new ≡ old)
+  pub aboveSample : signed sample ≤ℤ signed new
+  pub aboveOld : signed old ≤ℤ signed new
+
+pub maximum-greater : (sample old : ℕ) → (sample ≡ missing → ⊥) → (old ≡ missing → ⊥) → Greater sample old (newMaximum sample old)
+unfolding newMaximum
+maximum-greater sample old s o = rw (ne-eqb sample missing s, ne-eqb old missing o) (go (leZ (signed sample) (signed old)) refl)
+  where
+    go : (b : Bool) → leZ (signed sample) (signed old) ≡ b → Greater sample old (if b then old else sample)
+    go true e = record { isOne = inr refl; aboveSample = leZ-below (signed sample) (signed old) e; aboveOld = ≤ℤ-refl (signed old) }
+    go false e = record { isOne = inl refl; aboveSample = ≤ℤ-refl (signed sample); aboveOld = leZ-above (signed sample) (signed old) e }
+
+-- "A missing sample .. moves no maximum."
+pub missing-moves-none : (old : ℕ) → newMaximum missing old ≡ old
+unfolding newMaximum
+missing-moves-none old = refl
+
+-- "A missing maximum takes the first real sample."
+pub first-sample : (sample : ℕ) → newMaximum sample missing ≡ sample
+unfolding newMaximum
+first-sample sample = go (eqb sample missing) refl
+  where
+    go : (b : Bool) → eqb sample missing ≡ b → (if b then missing else sample) ≡ sample
+    go true e = sym (eqb-true sample missing e)
+    go false e = refl
+
+-- two's complement: 0 to 127 are themselves, and 80h + n is -128 + n
+pub signed-positive : (b : ℕ) → b < 128 → signed b ≡ pos b
+signed-positive b h = rw (lt-ltb b 128 h)
+
+pub signed-negative : (b : ℕ) → 128 ≤ b → signed b ≡ negsuc (255 - b)
+signed-negative b h = rw (le-ltb b 128 h)
+
+-- ---- the history
+
+-- "a reading is logged at index + 1, and 0 follows 477"
+pub next-index : (index : ℕ) → index < 477 → nextIndex index ≡ index + 1
+next-index index h = rw (ne-eqb (suc index) historySize (λ e. omega arith)) (omega arith)
+
+pub next-after-last : nextIndex 477 ≡ 0
+next-after-last = refl
+
+pub index-small : (index : ℕ) → index < historySize → nextIndex index < historySize
+index-small index h = go (eqb (suc index) historySize) refl
+  where
+    go : (b : Bool) → eqb (suc index) historySize ≡ b → (if b then 0 else suc index) < historySize
+    go true e = omega arith
+    go false e = let ne = borrow.Author.Tests.eqb-false (suc index) historySize e in omega arith
+
+-- "One sample is one minute": before the interval is reached a minute is counted and nothing is logged
+pub sample-counts : (interval sample : ℕ) (t : Thermal) → suc (t .minutes) < interval
+    → (sampled interval sample t .minutes ≡ suc (t .minutes)) × (sampled interval sample t .history ≡ t .history) × (sampled interval sample t .index ≡ t .index)
+unfolding sampled
+sample-counts interval sample t h = rw (lt-ltb (suc (t .minutes)) interval h) (refl, refl, refl)
+
+-- "When the minutes reach the interval, the sample (missing too) is logged and the minutes restart."
+pub sample-logs : (interval sample : ℕ) (t : Thermal) → suc (t .minutes) ≡ interval
+    → (sampled interval sample t .minutes ≡ 0)
+    × (sampled interval sample t .index ≡ nextIndex (t .index))
+    × (sampled interval sample t .history ≡ set (t .history) (nextIndex (t .index)) sample)
+unfolding sampled
+sample-logs interval sample t e = rw (le-ltb (suc (t .minutes)) interval (omega arith)) (refl, refl, refl)
+
+-- "A missing sample sets "now" missing": now is the sample, whatever it is
+pub sample-now : (interval sample : ℕ) (t : Thermal) → sampled interval sample t .now ≡ sample
+unfolding sampled
+sample-now interval sample t = refl
