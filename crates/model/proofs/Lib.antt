@@ -7,6 +7,7 @@ pub mod RequestLaws
 pub mod TemperatureLaws
 pub mod OwnerLaws
 pub mod WorkLaws
+pub mod ValidDevice
 pub mod EntryLaws
 pub mod ImageLaws
 pub mod SaveLaws
