@@ -165,6 +165,11 @@ table-at interval index history i x h =
       size = rw (length-append, size, h);
     }
 
+pub table-bytes : (interval index : ℕ) (history : List ℕ) → Bytes history → Bytes (tableBytes interval index history)
+unfolding tableBytes
+table-bytes interval index history b =
+    bytes-append (form tableHeadSize (tableFields interval index)) history (bytes-form tableHeadSize (tableFields interval index)) b
+
 -- ---- replies
 
 abbrev registersPlaces : List Field

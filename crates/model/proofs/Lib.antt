@@ -8,7 +8,10 @@ pub mod TemperatureLaws
 pub mod OwnerLaws
 pub mod WorkLaws
 pub mod ValidDevice
+pub mod ValidRequest
 pub mod EntryLaws
 pub mod ImageLaws
 pub mod SaveLaws
 pub mod PowerOnLaws
+pub mod ValidStep
+pub mod HiddenLaws

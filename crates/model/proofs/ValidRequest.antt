@@ -1,0 +1,255 @@
+-- What a request decides keeps document 01's ranges: the device, the effect and the reply's registers.
+use mathlib.Core.Path.{_≡_, refl, sym, ap, _∙_, subst}
+use mathlib.Core.Bool.{Bool, true, false, not}
+use mathlib.Core.Logic.{_⊎_, inl, inr}
+use Prim.Native.Nat.{ℕ, zero, suc, _+_, _*_, _^_, _≤_, _<_}
+use native.Mathlib.Omega.{arith}
+use mathlib.Core.List.{List, [], _∷_}
+use lib.ListN.{length, getD, set}
+use lib.Dec.{eqb, ltb}
+use borrow.Author.Tests.{ltb-true}
+use Rattle.wire.specs.Choice.{if_then_else_, bit, Check, firstFailed, ifPassed}
+use Rattle.wire.specs.Bytes.{Bytes}
+use Rattle.wire.proofs.ChoiceLaws.{bit-small, AllPass, Numbered, all-pass, first-bound}
+use Rattle.wire.proofs.PartsLaws.{length-part}
+use Rattle.wire.proofs.BytesLaws.{bytes-part, get-fits}
+use Rattle.model.specs.Sizes.{sectorSize, registersSize, mailboxSize, portCount}
+use Rattle.model.specs.Device.{Fill, idle, running, Transfer, none, table, fillData, Feature, Settings, Device}
+use Rattle.model.specs.Update.{withCode, withKey}
+use Rattle.model.specs.Registers.{Direction, read, write, Request, statusRead, keySector, dataTransfer, sectorAccess, other, dataOf, requestOf, Registers, good, refused, refusedWith}
+use Rattle.model.specs.Key.{word, FeatureName, writeCache, reordering, logInterval, highestState, Action, fillPattern, fillSector, setTimer, returnTimer, setFeature, returnState, returnOption, sendTable, Verdict, accepted, rejected, keyChecks, actionOf, verdict, judgeKey}
+use Rattle.model.specs.Fill.{interrupt}
+use Rattle.model.specs.Decide.{Effect, nothing, sendStatus, sendTemperatures, readLba, writeLba, beginFill, Decision, decision, decideStatus, timer, feature, carryOut, decideVerdict, decideKey, moves, dataChecks, transferEffect, decideData, sectorChecks, sectorEffect, decideSector, pendingFor, decideRequest, decide}
+use Rattle.model.specs.Valid.{TransferValid, PendingValid, StateValid, SettingsValid, Valid, Sized}
+use Rattle.model.proofs.KeyLaws.{key-codes, verdict-rejected, featureNumber, ActionValid, accepted-valid}
+use Rattle.model.proofs.FormatLaws.{RegistersFit}
+use Rattle.model.proofs.RequestLaws.{interrupt-kept}
+use Rattle.model.proofs.OwnerLaws.{Quiet, interrupt-quiet}
+use Rattle.model.proofs.ValidDevice.{interrupt-valid, code-valid, key-valid, pending-valid, timer-set, feature-set}
+
+-- what an effect's values have to meet on the device that was decided
+abbrev pub EffectValid : Device → Effect → Type 0
+EffectValid d nothing = Unit {0}
+EffectValid d sendStatus = Unit {0}
+EffectValid d sendTemperatures = Unit {0}
+EffectValid d (readLba lba) = lba < d .visible
+EffectValid d (writeLba lba sector) = (lba < d .visible) × Sized sectorSize sector
+EffectValid d (beginFill first end sector) = (first < end) × (end ≤ d .visible) × Sized sectorSize sector × Quiet d
+
+-- A decision on the device d: in range; N and V stay; the fill is the one there was, or none.
+pub record DecisionValid (d : Device) (c : Decision) : Type 0 where
+  pub deviceValid : Valid (c .device)
+  pub effectValid : EffectValid (c .device) (c .effect)
+  pub fits : RegistersFit (c .registers)
+  pub sameSizes : (c .device .native ≡ d .native) × (c .device .visible ≡ d .visible)
+  pub sameFill : (c .device .command .fill ≡ idle) ⊎ (c .device .command .fill ≡ d .command .fill)
+
+good-fits : (value sectors : ℕ) → value < 256 ^ 2 → sectors < 256 → RegistersFit (good value sectors)
+good-fits value sectors h k = record { value = h; sectors = k; status = omega arith; error = omega arith }
+
+refused-fits : (error : ℕ) → error < 256 → RegistersFit (refused error)
+refused-fits error h = record { value = omega arith; sectors = omega arith; status = omega arith; error = h }
+
+code-fits : (code : ℕ) → code < 256 ^ 2 → RegistersFit (refusedWith code)
+code-fits code h = record { value = h; sectors = omega arith; status = omega arith; error = omega arith }
+
+-- ---- values that a reply carries
+
+timer-fits : (t : Direction) (s : Settings) → SettingsValid s → timer t s < 256 ^ 2
+timer-fits read s v = v .words .0
+timer-fits write s v = v .words .1
+
+state-fits : (f : FeatureName) (s : Settings) → SettingsValid s → feature f s .state < 256 ^ 2
+state-fits writeCache s v = omega (arith, v .cacheValid .1)
+state-fits reordering s v = omega (arith, v .reorderingValid .1)
+state-fits logInterval s v = omega (arith, v .intervalValid .1)
+
+-- ---- after an interrupt
+
+-- N, V and the settings are those before
+sizes-kept : (d : Device) → (interrupt d .native ≡ d .native) × (interrupt d .visible ≡ d .visible)
+sizes-kept d = (ap (λ (e : Device). e .native) (interrupt-kept d), ap (λ (e : Device). e .visible) (interrupt-kept d))
+
+-- a decision that leaves an interrupted device with a code
+coded-valid : (d : Device) (n : ℕ) (r : Registers) (e : Effect) → Valid d → n < 0xFFFF → RegistersFit r
+    → EffectValid (withCode n (interrupt d)) e → DecisionValid d (decision (withCode n (interrupt d)) r e)
+coded-valid d n r e v h f k =
+    record {
+      deviceValid = code-valid n (interrupt d) (interrupt-valid d v) (interrupt-quiet d .noFill) h;
+      effectValid = k;
+      fits = f;
+      sameSizes = sizes-kept d;
+      sameFill = inl (interrupt-quiet d .noFill);
+    }
+
+-- ---- a key
+
+-- a decision with no effect, which leaves N, V and the fill
+still : (d e : Device) (r : Registers) → Valid e → RegistersFit r → (e .native ≡ d .native) × (e .visible ≡ d .visible)
+    → e .command .fill ≡ d .command .fill → DecisionValid d (decision e r nothing)
+still d e r v f sizes fill = record { deviceValid = v; effectValid = tt; fits = f; sameSizes = sizes; sameFill = inr fill }
+
+plain : RegistersFit (good 0 0)
+plain = good-fits 0 0 (omega arith) (omega arith)
+
+oneSector : RegistersFit (good 0 1)
+oneSector = good-fits 0 1 (omega arith) (omega arith)
+
+module _ (d : Device) (p : ℕ) (v : Valid d) (q : Quiet d) where
+  carry-valid : (a : Action) → ActionValid (d .visible) a → DecisionValid d (carryOut a p d)
+  unfolding carryOut
+  carry-valid (fillPattern first end sector) k =
+      record { deviceValid = v; effectValid = (k .0, k .1, k .2, q); fits = plain; sameSizes = (refl, refl); sameFill = inr refl }
+  carry-valid (fillSector first end) k = still d _ _ (pending-valid p (fillData first end) d v q k) oneSector (refl, refl) refl
+  carry-valid (setTimer t n) k = still d _ _ (timer-set t n d v (k .0) (k .1)) plain (refl, refl) refl
+  carry-valid (returnTimer t) k = still d d _ v (good-fits _ 0 (timer-fits t (d .settings) (v .settingsValid)) (omega arith)) (refl, refl) refl
+  carry-valid (setFeature writeCache n keep) k = still d _ _ (feature-set writeCache n keep d v (k .0) (k .1)) plain (refl, refl) refl
+  carry-valid (setFeature reordering n keep) k = still d _ _ (feature-set reordering n keep d v (k .0) (k .1)) plain (refl, refl) refl
+  carry-valid (setFeature logInterval n keep) k = still d _ _ (feature-set logInterval n keep d v (k .0) (k .1)) plain (refl, refl) refl
+  carry-valid (returnState f) k = still d d _ v (good-fits _ 0 (state-fits f (d .settings) (v .settingsValid)) (omega arith)) (refl, refl) refl
+  carry-valid (returnOption f) k =
+      still d d _ v (good-fits _ 0 (omega (arith, bit-small (feature f (d .settings) .persistent))) (omega arith)) (refl, refl) refl
+  carry-valid sendTable k = still d _ _ (pending-valid p table d v q tt) oneSector (refl, refl) refl
+
+module _ (d : Device) (p : ℕ) (v : Valid d) (q : Quiet d) where
+  -- the code of a refused key is at most 12h
+  rejected-small : (k : List ℕ) (code : ℕ) → judgeKey d k ≡ rejected code → code ≤ 0x12
+  unfolding judgeKey
+  rejected-small k code e =
+      let same = verdict-rejected (firstFailed (keyChecks d k)) (actionOf (d .visible) k) code e in
+      omega (arith, first-bound 0x12 (keyChecks d k) (key-codes d k))
+
+  key-decided : (k : List ℕ) → length k ≡ sectorSize → Bytes k → DecisionValid d (decideKey p k d)
+  unfolding decideKey
+  key-decided k size bytes = go (judgeKey d k) refl
+    where
+      recorded : Device
+      recorded = withKey (word k 0) (word k 1) d
+
+      recorded-valid : Valid recorded
+      recorded-valid = key-valid (word k 0) (word k 1) d v (get-fits 2 k 0 bytes) (get-fits 2 k 2 bytes)
+
+      go : (j : Verdict) → judgeKey d k ≡ j → DecisionValid d (decideVerdict j p recorded)
+      go (accepted a) e =
+          let d₀ = withCode 0x0000 recorded in
+          let w =
+              carry-valid d₀ p (code-valid 0x0000 recorded recorded-valid (q .noFill) (omega arith))
+              (record { noFill = q .noFill; noTransfer = q .noTransfer }) a
+              (accepted-valid d k a (v .sizes .0) size bytes e) in
+          record { deviceValid = w .deviceValid; effectValid = w .effectValid; fits = w .fits; sameSizes = w .sameSizes; sameFill = w .sameFill }
+      go (rejected code) e =
+          let small = rejected-small k code e in
+          still d _ _ (code-valid code recorded recorded-valid (q .noFill) (omega arith)) (code-fits code (omega arith)) (refl, refl) refl
+
+-- ---- a transfer
+
+-- a transfer that may move is in range
+pending-for : (visible : ℕ) (ts : List Transfer) (p : ℕ) → PendingValid visible ts → TransferValid visible (getD ts p none)
+pending-for visible [] zero v = tt
+pending-for visible [] (suc p) v = tt
+pending-for visible (t ∷ ts) zero v = v .0
+pending-for visible (t ∷ ts) (suc p) v = pending-for visible ts p (v .1)
+
+module _ (d : Device) (v : Valid d) (sector : List ℕ) (whole : Sized sectorSize sector) where
+  transfer-effect : (t : Transfer) → TransferValid (d .visible) t → EffectValid (withCode 0x0000 (interrupt d)) (transferEffect t sector)
+  transfer-effect none k = tt
+  transfer-effect table k = tt
+  transfer-effect (fillData first end) k =
+      (k .0, rw (sizes-kept d .1) (k .1), whole, record { noFill = interrupt-quiet d .noFill; noTransfer = interrupt-quiet d .noTransfer })
+
+  data-decided : (dir : Direction) (count : ℕ) (t : Transfer) → TransferValid (d .visible) t → DecisionValid d (decideData dir count t sector (interrupt d))
+  unfolding decideData
+  data-decided dir count t k = go (firstFailed cs) (first-bound 0x12 cs (omega arith))
+    where
+      cs : List Check
+      cs = dataChecks (interrupt d .locked) dir count t
+
+      go : (n : ℕ) → n ≤ 0x12
+          → DecisionValid d
+          (ifPassed n (decision (withCode 0x0000 (interrupt d)) (good 0 0) (transferEffect t sector)) (decision (withCode n (interrupt d)) (refusedWith n) nothing))
+      go zero h = coded-valid d 0x0000 (good 0 0) (transferEffect t sector) v (omega arith) plain (transfer-effect t k)
+      go (suc n) h = coded-valid d (suc n) (refusedWith (suc n)) nothing v (omega arith) (code-fits (suc n) (omega arith)) tt
+
+  -- ---- one sector
+
+  sector-decided : (dir : Direction) (count lba : ℕ) → DecisionValid d (decideSector dir count lba sector (interrupt d))
+  unfolding decideSector
+  sector-decided dir count lba = go (firstFailed cs) refl (first-bound 0x10 cs (omega arith))
+    where
+      cs : List Check
+      cs = sectorChecks (interrupt d) count lba
+
+      within : firstFailed cs ≡ 0 → lba < interrupt d .visible
+      within e = ltb-true lba (interrupt d .visible) (all-pass 0x10 cs (omega arith) e .1 .1 .0)
+
+      effect-valid : (dir : Direction) → lba < interrupt d .visible → EffectValid (interrupt d) (sectorEffect dir lba sector)
+      effect-valid read h = h
+      effect-valid write h = (h, whole)
+
+      go : (n : ℕ) → firstFailed cs ≡ n → n ≤ 0x10
+          → DecisionValid d (ifPassed n (decision (interrupt d) (good 0 0) (sectorEffect dir lba sector)) (decision (interrupt d) (refused n) nothing))
+      go zero e h =
+          record {
+            deviceValid = interrupt-valid d v;
+            effectValid = effect-valid dir (within e);
+            fits = plain;
+            sameSizes = sizes-kept d;
+            sameFill = inl (interrupt-quiet d .noFill);
+          }
+      go (suc n) e h =
+          record {
+            deviceValid = interrupt-valid d v;
+            effectValid = tt;
+            fits = refused-fits (suc n) (omega arith);
+            sameSizes = sizes-kept d;
+            sameFill = inl (interrupt-quiet d .noFill);
+          }
+
+-- ---- any request
+
+status-decided : (d : Device) → Valid d → DecisionValid d (decideStatus d)
+status-decided d v = go (d .locked)
+  where
+    go : (b : Bool) → DecisionValid d (if b then decision d (refusedWith 0x0012) nothing else decision d (good 0 0) sendStatus)
+    go true = still d d _ v (code-fits 0x0012 (omega arith)) (refl, refl) refl
+    go false = record { deviceValid = v; effectValid = tt; fits = plain; sameSizes = (refl, refl); sameFill = inr refl }
+
+pub decide-valid : (p : ℕ) (m : List ℕ) (d : Device) → Valid d → Sized mailboxSize m → DecisionValid d (decide p m d)
+unfolding decide
+decide-valid p m d v whole = go (requestOf m)
+  where
+    sector : Sized sectorSize (dataOf m)
+    sector =
+        record {
+          size = length-part m registersSize sectorSize (omega (arith, whole .size));
+          bytes = bytes-part m registersSize sectorSize (whole .bytes);
+        }
+
+    keyed : DecisionValid (interrupt d) (decideKey p (dataOf m) (interrupt d))
+    keyed = key-decided (interrupt d) p (interrupt-valid d v) (interrupt-quiet d) (dataOf m) (sector .size) (sector .bytes)
+
+    same-fill : (f : Fill) → (f ≡ idle) ⊎ (f ≡ interrupt d .command .fill) → (f ≡ idle) ⊎ (f ≡ d .command .fill)
+    same-fill f (inl e) = inl e
+    same-fill f (inr e) = inl (e ∙ interrupt-quiet d .noFill)
+
+    go : (r : Request) → DecisionValid d (decideRequest r p m d)
+    go statusRead = status-decided d v
+    go keySector =
+        record {
+          deviceValid = keyed .deviceValid;
+          effectValid = keyed .effectValid;
+          fits = keyed .fits;
+          sameSizes = (keyed .sameSizes .0 ∙ sizes-kept d .0, keyed .sameSizes .1 ∙ sizes-kept d .1);
+          sameFill = same-fill _ (keyed .sameFill);
+        }
+    go (dataTransfer dir count) =
+        data-decided d v (dataOf m) sector dir count (pendingFor p d) (pending-for (d .visible) (d .command .pending) p (v .commandValid .pendingValid))
+    go (sectorAccess dir count lba) = sector-decided d v (dataOf m) sector dir count lba
+    go other =
+        record {
+          deviceValid = interrupt-valid d v;
+          effectValid = tt;
+          fits = refused-fits 0x04 (omega arith);
+          sameSizes = sizes-kept d;
+          sameFill = inl (interrupt-quiet d .noFill);
+        }
