@@ -1,9 +1,11 @@
 -- Laws of the model machine, in reading order.
 pub mod Starred
+pub mod RegisterLaws
 pub mod StepLaws
 pub mod KeyLaws
 pub mod FormatLaws
 pub mod RequestLaws
+pub mod TakenLaws
 pub mod TemperatureLaws
 pub mod OwnerLaws
 pub mod WorkLaws
@@ -13,5 +15,6 @@ pub mod EntryLaws
 pub mod ImageLaws
 pub mod SaveLaws
 pub mod PowerOnLaws
+pub mod SavedThenOn
 pub mod ValidStep
 pub mod HiddenLaws

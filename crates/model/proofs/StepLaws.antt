@@ -23,6 +23,38 @@ pub step-refused : (x : Step) (M : Machine) (n : ℕ) → firstFailed (checks x 
 unfolding step
 step-refused x M n e = ap (λ (n : ℕ). attempt n M (unchanged x n) (record { state = does x M; seen = seen x M })) e
 
+-- the answer is the number of the first check that fails
+seen-done : (x : Step) (M : Machine) → seen x M .answer ≡ done
+seen-done (take p m) M = refl
+seen-done (serve s) M = refl
+seen-done (give p m) M = refl
+seen-done (work n) M = refl
+seen-done lock M = refl
+seen-done unlock M = refl
+seen-done (setVisible v) M = refl
+seen-done (sample reading) M = refl
+seen-done (save image used) M = refl
+seen-done (powerOn image used) M = refl
+
+unchanged-answer : (x : Step) (n : ℕ) → unchanged x n .answer ≡ n
+unchanged-answer (take p m) n = refl
+unchanged-answer (serve s) n = refl
+unchanged-answer (give p m) n = refl
+unchanged-answer (work k) n = refl
+unchanged-answer lock n = refl
+unchanged-answer unlock n = refl
+unchanged-answer (setVisible v) n = refl
+unchanged-answer (sample reading) n = refl
+unchanged-answer (save image used) n = refl
+unchanged-answer (powerOn image used) n = refl
+
+pub answer-is : (x : Step) (M : Machine) → step x M .seen .answer ≡ firstFailed (checks x M)
+answer-is x M = go (firstFailed (checks x M)) refl
+  where
+    go : (n : ℕ) → firstFailed (checks x M) ≡ n → step x M .seen .answer ≡ firstFailed (checks x M)
+    go zero e = rw (step-done x M e) (seen-done x M ∙ sym e)
+    go (suc n) e = rw (step-refused x M n e) (unchanged-answer x (suc n) ∙ sym e)
+
 -- ---- "Order where several apply: 4, 2, 1, 5, 3, 6, 7, 8."
 
 -- how early a number stands in a list

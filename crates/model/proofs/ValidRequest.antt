@@ -20,7 +20,7 @@ use Rattle.model.specs.Registers.{Direction, read, write, Request, statu
 use Rattle.model.specs.Key.{word, FeatureName, writeCache, reordering, logInterval, highestState, Action, fillPattern, fillSector, setTimer, returnTimer, setFeature, returnState, returnOption, sendTable, Verdict, accepted, rejected, keyChecks, actionOf, verdict, judgeKey}
 use Rattle.model.specs.Fill.{interrupt}
 use Rattle.model.specs.Decide.{Effect, nothing, sendStatus, sendTemperatures, readLba, writeLba, beginFill, Decision, decision, decideStatus, timer, feature, carryOut, decideVerdict, decideKey, moves, dataChecks, transferEffect, decideData, sectorChecks, sectorEffect, decideSector, pendingFor, decideRequest, decide}
-use Rattle.model.specs.Valid.{TransferValid, PendingValid, StateValid, SettingsValid, Valid, Sized}
+use Rattle.model.specs.Valid.{TransferValid, PendingValid, pendingCount, pendingLimit, StateValid, SettingsValid, Valid, Sized}
 use Rattle.model.proofs.KeyLaws.{key-codes, verdict-rejected, featureNumber, ActionValid, accepted-valid}
 use Rattle.model.proofs.FormatLaws.{RegistersFit}
 use Rattle.model.proofs.RequestLaws.{interrupt-kept}
@@ -133,9 +133,9 @@ module _ (d : Device) (p : ℕ) (v : Valid d) (q : Quiet d) where
       go (accepted a) e =
           let d₀ = withCode 0x0000 recorded in
           let w =
-              carry-valid d₀ p (code-valid 0x0000 recorded recorded-valid (q .noFill) (omega arith))
-              (record { noFill = q .noFill; noTransfer = q .noTransfer }) a
-              (accepted-valid d k a (v .sizes .0) size bytes e) in
+          carry-valid d₀ p (code-valid 0x0000 recorded recorded-valid (q .noFill) (omega arith))
+          (record { noFill = q .noFill; noTransfer = q .noTransfer }) a
+          (accepted-valid d k a (v .sizes .0) size bytes e) in
           record { deviceValid = w .deviceValid; effectValid = w .effectValid; fits = w .fits; sameSizes = w .sameSizes; sameFill = w .sameFill }
       go (rejected code) e =
           let small = rejected-small k code e in
@@ -204,6 +204,53 @@ module _ (d : Device) (v : Valid d) (sector : List ℕ) (whole : Sized sectorSiz
             sameSizes = sizes-kept d;
             sameFill = inl (interrupt-quiet d .noFill);
           }
+
+-- ---- who owns a pending transfer
+
+-- a place whose transfer is pending counts
+counted : (ts : List Transfer) (q : ℕ) → (getD ts q none ≡ none → ⊥) → 1 ≤ pendingCount ts
+counted [] zero ne = absurd (ne refl)
+counted [] (suc q) ne = absurd (ne refl)
+counted (none ∷ ts) zero ne = absurd (ne refl)
+counted (table ∷ ts) zero ne = omega arith
+counted (fillData first end ∷ ts) zero ne = omega arith
+counted (none ∷ ts) (suc q) ne = counted ts q ne
+counted (table ∷ ts) (suc q) ne = omega arith
+counted (fillData first end ∷ ts) (suc q) ne = omega arith
+
+-- where nothing is pending, no port has a transfer
+empty-rest : (ts : List Transfer) (p : ℕ) → pendingCount ts ≤ 0 → getD ts p none ≡ none
+empty-rest [] zero h = refl
+empty-rest [] (suc p) h = refl
+empty-rest (none ∷ ts) zero h = refl
+empty-rest (none ∷ ts) (suc p) h = empty-rest ts p h
+empty-rest (table ∷ ts) zero h = absurd (omega arith)
+empty-rest (table ∷ ts) (suc p) h = absurd (omega arith)
+empty-rest (fillData first end ∷ ts) zero h = absurd (omega arith)
+empty-rest (fillData first end ∷ ts) (suc p) h = absurd (omega arith)
+
+-- where at most one is pending, every other port has none
+alone : (ts : List Transfer) (p q : ℕ) → pendingCount ts ≤ 1 → (q ≡ p → ⊥) → (getD ts q none ≡ none → ⊥) → getD ts p none ≡ none
+alone [] zero q one ne some = refl
+alone [] (suc p) q one ne some = refl
+alone (t ∷ ts) zero zero one ne some = absurd (ne refl)
+alone (none ∷ ts) zero (suc q) one ne some = refl
+alone (table ∷ ts) zero (suc q) one ne some = absurd (let c = counted ts q some in omega arith)
+alone (fillData first end ∷ ts) zero (suc q) one ne some = absurd (let c = counted ts q some in omega arith)
+alone (none ∷ ts) (suc p) zero one ne some = absurd (some refl)
+alone (table ∷ ts) (suc p) zero one ne some = empty-rest ts p (omega arith)
+alone (fillData first end ∷ ts) (suc p) zero one ne some = empty-rest ts p (omega arith)
+alone (none ∷ ts) (suc p) (suc q) one ne some = alone ts p q one (λ e. ne (ap suc e)) some
+alone (table ∷ ts) (suc p) (suc q) one ne some = alone ts p q (omega arith) (λ e. ne (ap suc e)) some
+alone (fillData first end ∷ ts) (suc p) (suc q) one ne some = alone ts p q (omega arith) (λ e. ne (ap suc e)) some
+
+limit-one : (f : Fill) → pendingLimit f ≤ 1
+limit-one idle = omega arith
+limit-one (running first next end) = omega arith
+
+-- "another port collecting an owed sector": where port q has a transfer pending, port p has none
+pub not-owner : (d : Device) → Valid d → (p q : ℕ) → (q ≡ p → ⊥) → (getD (d .command .pending) q none ≡ none → ⊥) → getD (d .command .pending) p none ≡ none
+not-owner d v p q = alone (d .command .pending) p q (omega (arith, v .commandValid .onlyOne, limit-one (d .command .fill)))
 
 -- ---- any request
 

@@ -79,16 +79,14 @@ sent-valid sendTemperatures v ok k =
     let d = v .device in
     let t = ok .deviceValid .thermalValid in
     let interval = ok .deviceValid .settingsValid .intervalValid .1 in
-    let at = table-at (d .settings .logInterval .state) (d .thermal .index) (d .thermal .history) (omega arith) (omega (arith, t .indexValid)) (t .whole) in
-    (
+    let at = table-at (d .settings .logInterval .state) (d .thermal .index) (d .thermal .history) (omega arith) (omega (arith, t .indexValid)) (t .whole) in (
       omega (arith, at .size),
       table-bytes (d .settings .logInterval .state) (d .thermal .index) (d .thermal .history) (t .readings),
     )
-sent-valid (readLba lba) v ok k =
-    (
-      omega (arith, length-part (v .disk) (sectorSize * lba) sectorSize (omega (arith, ok .diskValid .size, ok .deviceValid .sizes .1))),
-      bytes-part (v .disk) (sectorSize * lba) sectorSize (ok .diskValid .bytes),
-    )
+sent-valid (readLba lba) v ok k = (
+  omega (arith, length-part (v .disk) (sectorSize * lba) sectorSize (omega (arith, ok .diskValid .size, ok .deviceValid .sizes .1))),
+  bytes-part (v .disk) (sectorSize * lba) sectorSize (ok .diskValid .bytes),
+)
 sent-valid (writeLba lba sector) v ok k = (omega arith, bytes-nil)
 sent-valid (beginFill first end sector) v ok k = (omega arith, bytes-nil)
 
@@ -202,8 +200,8 @@ work-valid : (n : ℕ) (M : Machine) → MachineValid M → MachineValid (worked
 unfolding worked workVolume
 work-valid n M ok =
     let w =
-        iterate-valid (workCount n (M .device .command .fill)) (M .sector) (volume M)
-        (record { volumeValid = record { deviceValid = ok .deviceValid; diskValid = ok .diskValid }; sectorValid = ok .sectorValid }) in
+    iterate-valid (workCount n (M .device .command .fill)) (M .sector) (volume M)
+    (record { volumeValid = record { deviceValid = ok .deviceValid; diskValid = ok .diskValid }; sectorValid = ok .sectorValid }) in
     record {
       deviceValid = w .volumeValid .deviceValid;
       sectorValid = running-valid (workVolume n (M .sector) (volume M) .device .command .fill) (M .sector) (w .sectorValid);

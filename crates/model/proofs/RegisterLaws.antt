@@ -1,0 +1,99 @@
+-- Laws of the registers: which bytes make which request, and which bytes are ignored.
+use mathlib.Core.Path.{_≡_, refl, sym, ap, _∙_}
+use mathlib.Core.Bool.{Bool, true, false, _&&_}
+use Prim.Native.Nat.{ℕ, zero, suc, _+_, _*_, _^_, _<_}
+use native.Mathlib.Omega.{arith}
+use mathlib.Core.List.{List, [], _∷_}
+use lib.ListN.{getD}
+use lib.Dec.{eqb}
+use Rattle.wire.specs.Choice.{if_then_else_}
+use Rattle.wire.specs.Numbers.{get}
+use Rattle.wire.proofs.NumbersLaws.{get-agree}
+use Rattle.model.specs.Registers.{Direction, read, write, Request, statusRead, keySector, dataTransfer, sectorAccess, other, features, count8, count16, lbaLow, lbaMid, lbaMid16, lbaHigh, command, lba48, control, logPage, smartLog, logExt, requestOf}
+
+-- ---- SMART read log and write log
+
+-- "B0h, Features D5h (read log) or D6h (write log), LBA Mid 4Fh, High C2h"
+pub record Smart (function : ℕ) (m : List ℕ) : Type 0 where
+  pub isCommand : command m ≡ 0xB0
+  pub isFunction : features m ≡ function
+  pub isMid : lbaMid m ≡ 0x4F
+  pub isHigh : lbaHigh m ≡ 0xC2
+
+pub smart-read : (m : List ℕ) → Smart 0xD5 m → requestOf m ≡ logPage read (lbaLow m) (count8 m)
+unfolding requestOf smartLog
+smart-read m s = rw (s .isCommand, s .isMid, s .isHigh, s .isFunction)
+
+pub smart-write : (m : List ℕ) → Smart 0xD6 m → requestOf m ≡ logPage write (lbaLow m) (count8 m)
+unfolding requestOf smartLog
+smart-write m s = rw (s .isCommand, s .isMid, s .isHigh, s .isFunction)
+
+-- "or 2Fh (read) or 3Fh (write) with both LBA Mid bytes 0"
+pub ext-read : (m : List ℕ) → command m ≡ 0x2F → lbaMid16 m ≡ 0 → requestOf m ≡ logPage read (lbaLow m) (count16 m)
+unfolding requestOf logExt
+ext-read m c z = rw (c, z)
+
+pub ext-write : (m : List ℕ) → command m ≡ 0x3F → lbaMid16 m ≡ 0 → requestOf m ≡ logPage write (lbaLow m) (count16 m)
+unfolding requestOf logExt
+ext-write m c z = rw (c, z)
+
+-- "Write E0h: key sector. Read E0h: status. E1h: data." "Sector Count is 1"
+pub page-status : logPage read 0xE0 1 ≡ statusRead
+unfolding logPage
+page-status = refl
+
+pub page-key : logPage write 0xE0 1 ≡ keySector
+unfolding logPage
+page-key = refl
+
+pub page-data : (d : Direction) (count : ℕ) → logPage d 0xE1 count ≡ dataTransfer d count
+unfolding logPage
+page-data d count = refl
+
+-- "E0h with another count" is all else
+pub page-count : (d : Direction) (count : ℕ) → eqb count 1 ≡ false → logPage d 0xE0 count ≡ other
+unfolding logPage
+page-count d count e = rw e
+
+-- ---- one sector
+
+pub sector-read : (m : List ℕ) → command m ≡ 0x24 → requestOf m ≡ sectorAccess read (count16 m) (lba48 m)
+unfolding requestOf
+sector-read m c = rw c
+
+pub sector-write : (m : List ℕ) → command m ≡ 0x34 → requestOf m ≡ sectorAccess write (count16 m) (lba48 m)
+unfolding requestOf
+sector-write m c = rw c
+
+-- "the 48-bit LBA, previous bytes giving bits 24 to 47"
+pub lba-bits : (m : List ℕ)
+    → lba48 m ≡ getD m 4 0 + 2 ^ 8 * getD m 6 0 + 2 ^ 16 * getD m 8 0 + 2 ^ 24 * getD m 5 0 + 2 ^ 32 * getD m 7 0 + 2 ^ 40 * getD m 9 0
+unfolding lba48 get
+lba-bits m = omega arith
+
+-- ---- "Input bytes 10 and 12 to 15 are ignored"
+
+-- the named bytes are the same
+pub record SameRegisters (m n : List ℕ) : Type 0 where
+  pub named : (i : ℕ) → i < 10 → getD m i 0 ≡ getD n i 0
+  pub isCommand : getD m 11 0 ≡ getD n 11 0
+
+pub ignored : (m n : List ℕ) → SameRegisters m n → requestOf m ≡ requestOf n
+unfolding requestOf smartLog logExt lba48
+ignored m n s =
+    let b : (i : ℕ) → i < 10 → getD m i 0 ≡ getD n i 0 = s .named in
+    let c : count16 m ≡ count16 n = get-agree 2 m n 2 2 (λ i h. b (2 + i) (omega arith)) in
+    let z : lbaMid16 m ≡ lbaMid16 n = get-agree 2 m n 6 6 (λ i h. b (6 + i) (omega arith)) in
+    rw (
+      s .isCommand,
+      c,
+      z,
+      b 0 (omega arith),
+      b 2 (omega arith),
+      b 4 (omega arith),
+      b 5 (omega arith),
+      b 6 (omega arith),
+      b 7 (omega arith),
+      b 8 (omega arith),
+      b 9 (omega arith),
+    )

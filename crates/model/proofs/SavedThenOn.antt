@@ -1,0 +1,51 @@
+-- A save that is answered 0, and then a power-on from that image on that disk.
+use mathlib.Core.Path.{_≡_, refl, sym, ap, _∙_}
+use Prim.Native.Nat.{ℕ, zero, suc, _+_, _*_, _/_}
+use native.Mathlib.Omega.{arith}
+use mathlib.Core.List.{List, []}
+use lib.ListN.{length}
+use Rattle.wire.specs.Choice.{firstFailed}
+use Rattle.model.specs.Sizes.{sectorSize, entrySize}
+use Rattle.model.specs.Image.{savedFrom, saveChecks, savedImage, powerOnChecks, restored}
+use Rattle.model.specs.Image.{powerOn as powerOnDevice}
+use Rattle.model.specs.Machine.{Machine}
+use Rattle.model.specs.Step.{Step, save, powerOn, Seen, Outcome, answeredImage, checks, poweredOn, step}
+use Rattle.model.specs.Valid.{MachineValid}
+use Rattle.model.proofs.StepLaws.{step-done, answer-is}
+use Rattle.model.proofs.SaveLaws.{power-on-after-save, restored-saved}
+use Rattle.model.proofs.PowerOnLaws.{KeptRules, kept-rules}
+
+-- N is a machine on the disk of M: it may have gone on since, but for its size
+module _ (M N : Machine) (image : List ℕ) (used : ℕ) (ok : MachineValid M) (disk : length (N .disk) ≡ length (M .disk)) (saves : step (save image used) M .seen .answer ≡ 0) where
+  abbrev saved : Seen
+  saved = step (save image used) M .seen
+
+  passed : firstFailed (saveChecks (M .device .native) image used) ≡ 0
+  passed = sym (answer-is (save image used) M) ∙ saves
+
+  saved-is : saved ≡ answeredImage 0 (savedImage (M .device) image used) (used + entrySize)
+  saved-is = ap (λ (o : Outcome Machine). o .seen) (step-done (save image used) M passed)
+
+  size : length (N .disk) ≡ sectorSize * M .device .native
+  size = disk ∙ ok .diskValid .size
+
+  on-passed : firstFailed (powerOnChecks (N .disk) (saved .image) (saved .used)) ≡ 0
+  on-passed = rw saved-is (power-on-after-save (M .device) image used (ok .deviceValid) passed (N .disk) size)
+
+  pub power-on-answers : step (powerOn (saved .image) (saved .used)) N .seen .answer ≡ 0
+  power-on-answers = answer-is (powerOn (saved .image) (saved .used)) N ∙ on-passed
+
+  device-on : step (powerOn (saved .image) (saved .used)) N .state .device ≡ powerOnDevice (savedFrom (M .device))
+  unfolding poweredOn
+  device-on =
+      ap (λ (o : Outcome Machine). o .state .device) (step-done (powerOn (saved .image) (saved .used)) N on-passed)
+      ∙ rw saved-is
+      (ap powerOnDevice
+      (ap (λ (n : ℕ). restored n (savedImage (M .device) image used) (used + entrySize)) native-is ∙ restored-saved (M .device) image used (ok .deviceValid) passed))
+    where
+      native-is : length (N .disk) / sectorSize ≡ M .device .native
+      native-is = rw size (omega arith)
+
+  -- THEOREM: "A saved image read back gives what was saved, as the power-on rules keep it"
+  pub saved-read-back : KeptRules (savedFrom (M .device)) (step (powerOn (saved .image) (saved .used)) N .state .device)
+  saved-read-back = rw device-on (kept-rules (savedFrom (M .device)))

@@ -1,0 +1,142 @@
+-- A request is the bytes copied at its taking, and what it does depends on them alone.
+use mathlib.Core.Path.{_≡_, refl, sym, ap, _∙_}
+use mathlib.Core.Bool.{Bool, true, false}
+use Prim.Native.Nat.{ℕ, zero, suc, _<_}
+use native.Mathlib.Omega.{arith}
+use mathlib.Core.List.{List, [], _∷_}
+use lib.ListN.{length}
+use lib.Dec.{eqb}
+use borrow.Author.Tests.{eqb-true, eq-eqb, ne-eqb}
+use native.Mathlib.Decide.{ℕ-discrete}
+use Rattle.wire.specs.Choice.{firstFailed}
+use Rattle.wire.proofs.ChoiceLaws.{all-pass}
+use Rattle.model.specs.Sizes.{portCount}
+use Rattle.model.specs.Registers.{replyBytes}
+use Rattle.model.specs.Fill.{Volume}
+use Rattle.model.specs.Decide.{Decision, decide}
+use Rattle.model.specs.Perform.{written, sent}
+use Rattle.model.specs.Machine.{Port, empty, request, reply, Machine, withPort}
+use Rattle.model.specs.Step.{Step, take, serve, give, work, lock, unlock, setVisible, sample, save, powerOn, isEmpty, isReply, checks, does, served, serveDecided, worked, step}
+use Rattle.model.proofs.StepLaws.{step-done, step-refused, answers-numbered, port-same, port-other}
+use Rattle.model.proofs.RequestLaws.{Serves, serves}
+
+-- a step that neither serves the port p nor is a power-on
+abbrev pub LeavesRequest : ℕ → Step → Type 0
+LeavesRequest p (take q m) = Unit {0}
+LeavesRequest p (serve s) = s .port ≡ p → ⊥
+LeavesRequest p (give q m) = Unit {0}
+LeavesRequest p (work n) = Unit {0}
+LeavesRequest p lock = Unit {0}
+LeavesRequest p unlock = Unit {0}
+LeavesRequest p (setVisible v) = Unit {0}
+LeavesRequest p (sample reading) = Unit {0}
+LeavesRequest p (save image used) = Unit {0}
+LeavesRequest p (powerOn image used) = ⊥
+
+-- every step of a list
+abbrev pub Each : (Step → Type 0) → List Step → Type 0
+Each P [] = Unit {0}
+Each P (x ∷ xs) = P x × Each P xs
+
+-- the machine after a list of steps
+abbrev pub after : List Step → Machine → Machine
+after [] M = M
+after (x ∷ xs) M = after xs (step x M .state)
+
+-- another port changes, or this one was not in the stage that the step needs
+other-port : (p q : ℕ) (x : Port) (m : List ℕ) (M : Machine) → M .ports p ≡ request m → (q ≡ p → ⊥) → withPort q x (M .ports) p ≡ request m
+other-port p q x m M held ne = port-other q p x (M .ports) (λ e. ne (sym e)) ∙ held
+
+module _ (p : ℕ) (m : List ℕ) (M : Machine) (held : M .ports p ≡ request m) where
+  -- a take or a give that is done was on another port
+  done-elsewhere : (q : ℕ) (stage : Port → Bool) → stage (M .ports q) ≡ true → stage (request m) ≡ false → q ≡ p → ⊥
+  done-elsewhere q stage e f same =
+      let at : stage (request m) ≡ true = ap stage (sym held ∙ ap (M .ports) (sym same)) ∙ e in
+      let z : _≡_ {A = ℕ} 0 1 = cc in
+      omega arith
+
+  does-leaves : (x : Step) → LeavesRequest p x → firstFailed (checks x M) ≡ 0 → does x M .ports p ≡ request m
+  unfolding served serveDecided worked
+  does-leaves (take q n) l e =
+      let pass = all-pass 8 (checks (take q n) M) (answers-numbered (take q n) M) e in
+      other-port p q (request n) m M held (done-elsewhere q isEmpty (pass .1 .1 .0) refl)
+  does-leaves (serve s) l e = other-port p (s .port) _ m M held l
+  does-leaves (give q n) l e =
+      let pass = all-pass 8 (checks (give q n) M) (answers-numbered (give q n) M) e in
+      other-port p q empty m M held (done-elsewhere q isReply (pass .1 .1 .0) refl)
+  does-leaves (work n) l e = held
+  does-leaves lock l e = held
+  does-leaves unlock l e = held
+  does-leaves (setVisible v) l e = held
+  does-leaves (sample reading) l e = held
+  does-leaves (save image used) l e = held
+  does-leaves (powerOn image used) l e = absurd l
+
+  request-stays : (x : Step) → LeavesRequest p x → step x M .state .ports p ≡ request m
+  request-stays x l = go (firstFailed (checks x M)) refl
+    where
+      go : (n : ℕ) → firstFailed (checks x M) ≡ n → step x M .state .ports p ≡ request m
+      go zero e = rw (step-done x M e) (does-leaves x l e)
+      go (suc n) e = rw (step-refused x M n e) held
+
+-- THEOREM: a request in a port is the mailbox at its taking until it is served or power comes on.
+pub requests-stay : (p : ℕ) (m : List ℕ) (xs : List Step) (M : Machine) → M .ports p ≡ request m → Each (LeavesRequest p) xs → after xs M .ports p ≡ request m
+requests-stay p m [] M held e = held
+requests-stay p m (x ∷ xs) M held e = requests-stay p m xs (step x M .state) (request-stays p m M held x (e .0)) (e .1)
+
+-- So it is served from those bytes, on the device and the disk of that moment, whatever mailboxes the steps between were fed.
+pub served-as-taken : (p : ℕ) (m : List ℕ) (xs : List Step) (M : Machine) → p < portCount → M .ports p ≡ request m → Each (LeavesRequest p) xs
+    → (c : Decision) → decide p m (after xs M .device) ≡ c
+    → Serves p (after xs M)
+    (replyBytes (c .registers) (sent (c .effect) (record { device = c .device; disk = after xs M .disk })))
+    (written (c .effect) (record { device = c .device; disk = after xs M .disk }) .device)
+    (written (c .effect) (record { device = c .device; disk = after xs M .disk }) .disk)
+served-as-taken p m xs M port held e c d = serves p (after xs M) m port (requests-stay p m xs M held e) d
+
+-- ---- mailboxes of other ports
+
+-- a take or a give on another port, with any mailbox
+abbrev pub OnOtherPort : ℕ → Step → Type 0
+OnOtherPort p (take q m) = q ≡ p → ⊥
+OnOtherPort p (serve s) = ⊥
+OnOtherPort p (give q m) = q ≡ p → ⊥
+OnOtherPort p (work n) = ⊥
+OnOtherPort p lock = ⊥
+OnOtherPort p unlock = ⊥
+OnOtherPort p (setVisible v) = ⊥
+OnOtherPort p (sample reading) = ⊥
+OnOtherPort p (save image used) = ⊥
+OnOtherPort p (powerOn image used) = ⊥
+
+-- what a serve of the port p sees of a machine
+pub record SameAt (p : ℕ) (M N : Machine) : Type 0 where
+  pub device : M .device ≡ N .device
+  pub disk : M .disk ≡ N .disk
+  pub port : M .ports p ≡ N .ports p
+
+step-on-other : (p : ℕ) (x : Step) (M : Machine) → OnOtherPort p x → SameAt p (step x M .state) M
+step-on-other p x M o = go (firstFailed (checks x M)) refl
+  where
+    changed : (x : Step) → OnOtherPort p x → SameAt p (does x M) M
+    changed (take q m) ne = record { device = refl; disk = refl; port = port-other q p (request m) (M .ports) (λ e. ne (sym e)) }
+    changed (serve s) o = absurd o
+    changed (give q m) ne = record { device = refl; disk = refl; port = port-other q p empty (M .ports) (λ e. ne (sym e)) }
+    changed (work n) o = absurd o
+    changed lock o = absurd o
+    changed unlock o = absurd o
+    changed (setVisible v) o = absurd o
+    changed (sample reading) o = absurd o
+    changed (save image used) o = absurd o
+    changed (powerOn image used) o = absurd o
+
+    go : (n : ℕ) → firstFailed (checks x M) ≡ n → SameAt p (step x M .state) M
+    go zero e = rw (step-done x M e) (changed x o)
+    go (suc n) e = rw (step-refused x M n e) (record { device = refl; disk = refl; port = refl })
+
+-- THEOREM: whatever other ports' mailboxes hold when they are taken from and given to, a serve of the port p sees the same.
+pub others-unseen : (p : ℕ) (xs : List Step) (M : Machine) → Each (OnOtherPort p) xs → SameAt p (after xs M) M
+others-unseen p [] M e = record { device = refl; disk = refl; port = refl }
+others-unseen p (x ∷ xs) M e =
+    let a = others-unseen p xs (step x M .state) (e .1) in
+    let b = step-on-other p x M (e .0) in
+    record { device = a .device ∙ b .device; disk = a .disk ∙ b .disk; port = a .port ∙ b .port }
