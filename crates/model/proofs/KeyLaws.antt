@@ -59,14 +59,14 @@ key-accepted d k a e =
     let w = verdict-accepted (firstFailed (keyChecks d k)) (actionOf (d .visible) k) a e in
     (all-pass 0x12 (keyChecks d k) (key-codes d k) (w .0), sym (w .1))
 
--- a code is never FFFFh
+-- the code of a refusal is the number of the row that failed
 pub verdict-rejected : (n : ℕ) (a : Action) (code : ℕ) → verdict n a ≡ rejected code → n ≡ code
 verdict-rejected zero a code e = cc
 verdict-rejected (suc n) a code e = cc
 
 -- ---- fills
 
--- "Start 0 .. Count": an accepted fill's sum, as whole numbers, is at most the last user LBA
+-- "Start + Count is a whole-number sum; it never wraps": of an accepted fill it is at most the last user LBA
 pub accepted-fill-sum : (d : Device) (k : List ℕ) (a : Action) → word k 0 ≡ 2 → judgeKey d k ≡ accepted a → start k + count k ≤ d .visible - 1
 unfolding keyChecks
 accepted-fill-sum d k a two e =

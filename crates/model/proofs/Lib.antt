@@ -2,6 +2,8 @@
 pub mod Starred
 pub mod RegisterLaws
 pub mod StepLaws
+pub mod RefusalLaws
+pub mod KeyTable
 pub mod KeyLaws
 pub mod FormatLaws
 pub mod RequestLaws

@@ -13,7 +13,7 @@ use Rattle.model.specs.Fill.{nothingPending, stopFill, interrupt}
 use Rattle.model.specs.Owner.{setLock}
 use Rattle.model.specs.Owner.{setVisible as setVisibleDevice}
 use Rattle.model.specs.Machine.{Machine}
-use Rattle.model.specs.Step.{Step, lock, unlock, setVisible, Outcome, checks, does, seen, step}
+use Rattle.model.specs.Step.{Step, lock, unlock, setVisible, Outcome, checks, does, seenDone, step}
 use Rattle.model.proofs.StepLaws.{step-done}
 use Rattle.model.proofs.RequestLaws.{interrupt-kept}
 
@@ -51,7 +51,7 @@ unfolding step setLock
 unlock-quiet M = let q = interrupt-quiet (M .device) in (record { noFill = q .noFill; noTransfer = q .noTransfer }, refl)
 
 module _ (v : ℕ) (M : Machine) (some : 1 ≤ v) (most : v ≤ M .device .native) where
-  visible-set : step (setVisible v) M ≡ record { state = does (setVisible v) M; seen = seen (setVisible v) M }
+  visible-set : step (setVisible v) M ≡ record { state = does (setVisible v) M; seen = seenDone (setVisible v) M }
   visible-set = step-done (setVisible v) M (pass-all (checks (setVisible v) M) (between-within 1 v (M .device .native) some most, tt))
 
   -- a fill is not carried on after V changed

@@ -9,13 +9,13 @@ use lib.Dec.{eqb}
 use Rattle.wire.specs.Choice.{if_then_else_}
 use Rattle.wire.specs.Numbers.{get}
 use Rattle.wire.proofs.NumbersLaws.{get-agree}
-use Rattle.model.specs.Registers.{Direction, read, write, Request, statusRead, keySector, dataTransfer, sectorAccess, other, features, count8, count16, lbaLow, lbaMid, lbaMid16, lbaHigh, command, lba48, control, logPage, smartLog, logExt, requestOf}
+use Rattle.model.specs.Registers.{Direction, read, write, Request, statusRead, keySector, dataTransfer, sectorAccess, other, features, count8, count16, lbaLow, lbaMid, lbaMid16, lbaHigh, commandByte, lba48, control, logPage, smartLog, logExt, requestOf}
 
 -- ---- SMART read log and write log
 
 -- "B0h, Features D5h (read log) or D6h (write log), LBA Mid 4Fh, High C2h"
 pub record Smart (function : ℕ) (m : List ℕ) : Type 0 where
-  pub isCommand : command m ≡ 0xB0
+  pub isCommand : commandByte m ≡ 0xB0
   pub isFunction : features m ≡ function
   pub isMid : lbaMid m ≡ 0x4F
   pub isHigh : lbaHigh m ≡ 0xC2
@@ -29,11 +29,11 @@ unfolding requestOf smartLog
 smart-write m s = rw (s .isCommand, s .isMid, s .isHigh, s .isFunction)
 
 -- "or 2Fh (read) or 3Fh (write) with both LBA Mid bytes 0"
-pub ext-read : (m : List ℕ) → command m ≡ 0x2F → lbaMid16 m ≡ 0 → requestOf m ≡ logPage read (lbaLow m) (count16 m)
+pub ext-read : (m : List ℕ) → commandByte m ≡ 0x2F → lbaMid16 m ≡ 0 → requestOf m ≡ logPage read (lbaLow m) (count16 m)
 unfolding requestOf logExt
 ext-read m c z = rw (c, z)
 
-pub ext-write : (m : List ℕ) → command m ≡ 0x3F → lbaMid16 m ≡ 0 → requestOf m ≡ logPage write (lbaLow m) (count16 m)
+pub ext-write : (m : List ℕ) → commandByte m ≡ 0x3F → lbaMid16 m ≡ 0 → requestOf m ≡ logPage write (lbaLow m) (count16 m)
 unfolding requestOf logExt
 ext-write m c z = rw (c, z)
 
@@ -57,11 +57,11 @@ page-count d count e = rw e
 
 -- ---- one sector
 
-pub sector-read : (m : List ℕ) → command m ≡ 0x24 → requestOf m ≡ sectorAccess read (count16 m) (lba48 m)
+pub sector-read : (m : List ℕ) → commandByte m ≡ 0x24 → requestOf m ≡ sectorAccess read (count16 m) (lba48 m)
 unfolding requestOf
 sector-read m c = rw c
 
-pub sector-write : (m : List ℕ) → command m ≡ 0x34 → requestOf m ≡ sectorAccess write (count16 m) (lba48 m)
+pub sector-write : (m : List ℕ) → commandByte m ≡ 0x34 → requestOf m ≡ sectorAccess write (count16 m) (lba48 m)
 unfolding requestOf
 sector-write m c = rw c
 

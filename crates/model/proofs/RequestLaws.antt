@@ -21,7 +21,7 @@ use Rattle.model.specs.Fill.{Volume, nothingPending, stopFill, interrupt
 use Rattle.model.specs.Decide.{Effect, nothing, sendStatus, sendTemperatures, readLba, writeLba, beginFill, Decision, decision, decideStatus, timer, withTimer, feature, withFeature, afterFeature, carryOut, decideVerdict, decideKey, moves, sectorsOf, dataChecks, decideData, sectorChecks, decideSector, pendingFor, decideRequest, decide}
 use Rattle.model.specs.Perform.{temperatureTable, written, sent}
 use Rattle.model.specs.Machine.{Port, empty, request, reply, Machine, withPort, heldBytes}
-use Rattle.model.specs.Step.{Step, serve, Serving, Seen, Outcome, checks, answered, served, serveDecided, step}
+use Rattle.model.specs.Step.{Step, serve, Serving, Seen, Outcome, checks, answerOnly, served, serveDecided, step}
 use Rattle.model.proofs.StepLaws.{step-done, port-same, port-other}
 
 abbrev pub serveOn : ℕ → Machine → Outcome Machine
@@ -29,7 +29,7 @@ serveOn p M = step (serve (record { port = p })) M
 
 -- The port p is served: it then holds this reply, the others what they held, and device and disk are these.
 pub record Serves (p : ℕ) (M : Machine) (answer : List ℕ) (d : Device) (disk : List ℕ) : Type 0 where
-  pub isSeen : serveOn p M .seen ≡ answered done
+  pub isSeen : serveOn p M .seen ≡ answerOnly done
   pub replied : serveOn p M .state .ports p ≡ reply answer
   pub others : (q : ℕ) → (q ≡ p → ⊥) → serveOn p M .state .ports q ≡ M .ports q
   pub deviceAfter : serveOn p M .state .device ≡ d
@@ -39,13 +39,16 @@ abbrev decidedVolume : Decision → Machine → Volume
 decidedVolume c M = record { device = c .device; disk = M .disk }
 
 -- stopping a fill leaves all but the command's state
-stop-kept : (f : Fill) (d : Device) → stopFill f d ≡ withCommand (stopFill f d .command) d
-stop-kept idle d = refl
-stop-kept (running first next end) d = refl
+stop-kept : (f : Fill) (ts : List Transfer) (d : Device) → withPending ts (stopFill f d) ≡ withCommand (withPending ts (stopFill f d) .command) d
+stop-kept idle ts d = refl
+stop-kept (running first next end) ts d = refl
 
 pub interrupt-kept : (d : Device) → interrupt d ≡ withCommand (interrupt d .command) d
 unfolding interrupt
-interrupt-kept d = ap (withPending nothingPending) (stop-kept (d .command .fill) d)
+interrupt-kept d = stop-kept (d .command .fill) _ d
+
+no-transfer : (dir : Direction) → moves dir none ≡ true → ⊥
+no-transfer dir e = let z : _≡_ {A = ℕ} 0 1 = cc in omega arith
 
 module _ (p : ℕ) (M : Machine) (m : List ℕ) (port : p < portCount) (held : M .ports p ≡ request m) where
   -- a held request is decided from the bytes taken, and performed
@@ -163,6 +166,25 @@ module _ (p : ℕ) (M : Machine) (m : List ℕ) (port : p < portCount) (held : M
       serves {c = decision (withCode (suc code) (interrupt (M .device))) (refusedWith (suc code)) nothing}
       (decided-data dir count e ∙ rw (interrupt-kept (M .device), j))
 
+  -- "E1h is judged: lock 0012h" ..
+  pub data-locked : (dir : Direction) (count : ℕ) → M .device .locked ≡ true → dataCode dir count ≡ 0x0012
+  data-locked dir count locked = rw locked
+
+  -- ".. no owed transfer of this port and direction 000Bh" ..
+  pub data-not-pending : (dir : Direction) (count : ℕ) → M .device .locked ≡ false → moves dir (getD (M .device .command .pending) p none) ≡ false
+      → dataCode dir count ≡ 0x000B
+  data-not-pending dir count unlocked pends = rw (unlocked, pends)
+
+  -- ".. count not 1 0003h."
+  pub data-count : (dir : Direction) (count : ℕ) → M .device .locked ≡ false → moves dir (getD (M .device .command .pending) p none) ≡ true → (count ≡ 1 → ⊥)
+      → dataCode dir count ≡ 0x0003
+  data-count dir count unlocked pends ne = rw (unlocked, pends) (go (getD (M .device .command .pending) p none) pends)
+    where
+      go : (t : Transfer) → moves dir t ≡ true → _≡_ {A = ℕ} (if eqb count (sectorsOf t) then 0 else 0x0003) 0x0003
+      go none e = absurd (no-transfer dir e)
+      go table e = rw (ne-eqb count 1 ne)
+      go (fillData first end) e = rw (ne-eqb count 1 ne)
+
   -- "A table is sent as it stands at the E1h read."
   pub serves-table : requestOf m ≡ dataTransfer read 1 → M .device .locked ≡ false → getD (M .device .command .pending) p none ≡ table
       → Serves p M (replyBytes (good 0 0) (temperatureTable (M .device))) (withCode 0x0000 (interrupt (M .device))) (M .disk)
@@ -204,6 +226,19 @@ module _ (p : ℕ) (M : Machine) (m : List ℕ) (port : p < portCount) (held : M
       serves {c = decision (interrupt (M .device)) (good 0 0) (readLba lba)}
       (decided-sector read 1 lba e ∙ rw (interrupt-kept (M .device), unlocked, lt-ltb lba (M .device .visible) low))
 
+  -- "Locked: Error 04h, before both"; "Count (16 bits) other than 1: Error 04h. LBA at or above V: Error 10h."
+  abbrev pub sectorError : ℕ → ℕ → ℕ
+  sectorError count lba = firstFailed (sectorChecks (M .device) count lba)
+
+  pub sector-locked : (count lba : ℕ) → M .device .locked ≡ true → sectorError count lba ≡ 0x04
+  sector-locked count lba locked = rw locked
+
+  pub sector-count : (count lba : ℕ) → M .device .locked ≡ false → (count ≡ 1 → ⊥) → sectorError count lba ≡ 0x04
+  sector-count count lba unlocked ne = rw (unlocked, ne-eqb count 1 ne)
+
+  pub sector-range : (lba : ℕ) → M .device .locked ≡ false → M .device .visible ≤ lba → sectorError 1 lba ≡ 0x10
+  sector-range lba unlocked h = rw (unlocked, le-ltb lba (M .device .visible) h)
+
   -- the sector is written at its place, every other byte stays, and the flag is cleared
   pub serves-write : (lba : ℕ) → requestOf m ≡ sectorAccess write 1 lba → M .device .locked ≡ false → lba < M .device .visible
       → Serves p M (replyBytes (good 0 0) []) (withInitialized false (interrupt (M .device))) (sets (M .disk) (sectorSize * lba) (dataOf m))
@@ -212,9 +247,8 @@ module _ (p : ℕ) (M : Machine) (m : List ℕ) (port : p < portCount) (held : M
       serves {c = decision (interrupt (M .device)) (good 0 0) (writeLba lba (dataOf m))}
       (decided-sector write 1 lba e ∙ rw (interrupt-kept (M .device), unlocked, lt-ltb lba (M .device .visible) low))
 
-  -- "Count (16 bits) other than 1: Error 04h. LBA at or above V: Error 10h. Locked: Error 04h, before both."
   pub serves-sector-refused : (dir : Direction) (count lba error : ℕ) → requestOf m ≡ sectorAccess dir count lba
-      → firstFailed (sectorChecks (M .device) count lba) ≡ suc error
+      → sectorError count lba ≡ suc error
       → Serves p M (replyBytes (refused (suc error)) []) (interrupt (M .device)) (M .disk)
   unfolding decideSector
   serves-sector-refused dir count lba error e j =

@@ -14,7 +14,7 @@ use Rattle.model.specs.Decide.{carryOut, decideKey, decide}
 use Rattle.model.specs.Owner.{sample}
 use Rattle.model.specs.Image.{powerOn, restored}
 use Rattle.model.specs.Machine.{Machine}
-use Rattle.model.specs.Step.{Step, take, serve, give, Seen, Outcome, step, trace, served, serveDecided, poweredOn, answered, answeredMailbox}
+use Rattle.model.specs.Step.{Step, take, serve, give, Seen, Outcome, step, trace, served, serveDecided, poweredOn, answerOnly, answeredMailbox}
 use Rattle.model.specs.Examples.{Example, evaluate, starred, keyMailbox, fillKey}
 
 -- THEOREM: every starred example comes out as 01 says.
@@ -26,7 +26,7 @@ starred-hold = refl
 pub end-to-end : map (λ (o : Outcome Machine). o .seen)
     (trace step (take 0 (keyMailbox (fillKey 64 0)) ∷ serve (record { port = 0 }) ∷ give 0 (zeros 528) ∷ []) (poweredOn (zeros (512 * 64)) [] 0))
     ≡ answeredMailbox 0 (keyMailbox (fillKey 64 0))
-    ∷ answered 0
+    ∷ answerOnly 0
     ∷ answeredMailbox 0 (form 528 ((2, 1, 0x02) ∷ (12, 1, 0x51) ∷ (13, 1, 0x04) ∷ []))
     ∷ []
 unfolding le get put form padded logPage smartLog requestOf registersBytes replyBytes keyChecks actionOf judgeKey interrupt carryOut decideKey decide powerOn restored step served serveDecided poweredOn

@@ -11,20 +11,20 @@ use Rattle.wire.specs.Choice.{if_then_else_, Check, firstFailed}
 use Rattle.wire.proofs.ChoiceLaws.{Numbered, all-pass, pass-all, first-bound}
 use Rattle.model.specs.Sizes.{portCount, mailboxSize, done, refusalOrder}
 use Rattle.model.specs.Machine.{Port, empty, request, reply, Machine, withPort, heldBytes}
-use Rattle.model.specs.Step.{Step, take, serve, give, work, lock, unlock, setVisible, sample, save, powerOn, Seen, Outcome, checks, unchanged, seen, answered, answeredMailbox, does, attempt, step}
+use Rattle.model.specs.Step.{Step, take, serve, give, work, lock, unlock, setVisible, sample, save, powerOn, Seen, Outcome, checks, unchanged, seenDone, answerOnly, answeredMailbox, does, attempt, step}
 
 -- a step that no check refuses is done
-pub step-done : (x : Step) (M : Machine) → firstFailed (checks x M) ≡ 0 → step x M ≡ record { state = does x M; seen = seen x M }
+pub step-done : (x : Step) (M : Machine) → firstFailed (checks x M) ≡ 0 → step x M ≡ record { state = does x M; seen = seenDone x M }
 unfolding step
-step-done x M e = ap (λ (n : ℕ). attempt n M (unchanged x n) (record { state = does x M; seen = seen x M })) e
+step-done x M e = ap (λ (n : ℕ). attempt n M (unchanged x n) (record { state = does x M; seen = seenDone x M })) e
 
 -- "A nonzero answer changes nothing anywhere": the machine, the mailbox and the image are as they were, and the count is 0
 pub step-refused : (x : Step) (M : Machine) (n : ℕ) → firstFailed (checks x M) ≡ suc n → step x M ≡ record { state = M; seen = unchanged x (suc n) }
 unfolding step
-step-refused x M n e = ap (λ (n : ℕ). attempt n M (unchanged x n) (record { state = does x M; seen = seen x M })) e
+step-refused x M n e = ap (λ (n : ℕ). attempt n M (unchanged x n) (record { state = does x M; seen = seenDone x M })) e
 
 -- the answer is the number of the first check that fails
-seen-done : (x : Step) (M : Machine) → seen x M .answer ≡ done
+seen-done : (x : Step) (M : Machine) → seenDone x M .answer ≡ done
 seen-done (take p m) M = refl
 seen-done (serve s) M = refl
 seen-done (give p m) M = refl
@@ -122,7 +122,7 @@ unfolding step
 give-blind p m n M e = rw e (go (firstFailed (checks (give p n) M)))
   where
     go : (k : ℕ)
-        → attempt k M (unchanged (give p m) k) (record { state = does (give p m) M; seen = seen (give p m) M }) .state
-        ≡ attempt k M (unchanged (give p n) k) (record { state = does (give p n) M; seen = seen (give p n) M }) .state
+        → attempt k M (unchanged (give p m) k) (record { state = does (give p m) M; seen = seenDone (give p m) M }) .state
+        ≡ attempt k M (unchanged (give p n) k) (record { state = does (give p n) M; seen = seenDone (give p n) M }) .state
     go zero = refl
     go (suc k) = refl

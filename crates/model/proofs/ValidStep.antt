@@ -30,7 +30,7 @@ use Rattle.model.specs.Owner.{setVisible as setVisibleDevice, sample as 
 use Rattle.model.specs.Image.{wholeSectors, readable, powerOnChecks, sameDisk, restored, blank, newest}
 use Rattle.model.specs.Image.{powerOn as powerOnDevice}
 use Rattle.model.specs.Machine.{Port, empty, request, reply, Machine, whileRunning, machine, withPort, heldBytes}
-use Rattle.model.specs.Step.{Step, take, serve, give, work, lock, unlock, setVisible, sample, save, powerOn, checks, unchanged, seen, does, isRequest, volume, served, serveDecided, worked, poweredOn, Outcome, step, trace}
+use Rattle.model.specs.Step.{Step, take, serve, give, work, lock, unlock, setVisible, sample, save, powerOn, checks, unchanged, seenDone, does, isRequest, volume, served, serveDecided, worked, poweredOn, Outcome, step, trace}
 use Rattle.model.specs.Valid.{FillValid, SectorValid, PortValid, Sized, Valid, MachineValid, Fed}
 use Rattle.model.proofs.StepLaws.{step-done, step-refused, answers-numbered}
 use Rattle.model.proofs.FormatLaws.{status-at, table-at, table-bytes, reply-sized}
@@ -92,13 +92,22 @@ sent-valid (beginFill first end sector) v ok k = (omega arith, bytes-nil)
 
 -- ---- the fill's sector
 
--- a sector that suits a fill suits it while it runs
-running-valid : (f : Fill) (s : List ℕ) → SectorValid f s → SectorValid f (whileRunning f s)
-running-valid idle s v = tt
+-- a sector that a running fill can have
+abbrev Suits : Fill → List ℕ → Type 0
+Suits idle s = Unit {0}
+Suits (running first next end) s = Sized sectorSize s
+
+suits : (f : Fill) (s : List ℕ) → SectorValid f s → Suits f s
+suits idle s v = tt
+suits (running first next end) s v = v
+
+-- the machine keeps it while the fill runs
+running-valid : (f : Fill) (s : List ℕ) → Suits f s → SectorValid f (whileRunning f s)
+running-valid idle s v = refl
 running-valid (running first next end) s v = v
 
-sector-after : (e : Effect) (d : Device) (disk s : List ℕ) → EffectValid d e → SectorValid (d .command .fill) s
-    → SectorValid (written e (record { device = d; disk = disk }) .device .command .fill) (fillSectorAfter e s)
+sector-after : (e : Effect) (d : Device) (disk s : List ℕ) → EffectValid d e → Suits (d .command .fill) s
+    → Suits (written e (record { device = d; disk = disk }) .device .command .fill) (fillSectorAfter e s)
 unfolding writeSector
 sector-after nothing d disk s k v = v
 sector-after sendStatus d disk s k v = v
@@ -108,9 +117,9 @@ sector-after (writeLba lba sector) d disk s k v = v
 sector-after (beginFill first end sector) d disk s k v = k .2
 
 -- the fill that was decided is the one there was, or none
-sector-decided : (f g : Fill) (s : List ℕ) → (f ≡ idle) ⊎ (f ≡ g) → SectorValid g s → SectorValid f s
-sector-decided f g s (inl e) v = subst (λ (x : Fill). SectorValid x s) (sym e) tt
-sector-decided f g s (inr e) v = subst (λ (x : Fill). SectorValid x s) (sym e) v
+sector-decided : (f g : Fill) (s : List ℕ) → (f ≡ idle) ⊎ (f ≡ g) → Suits g s → Suits f s
+sector-decided f g s (inl e) v = subst (λ (x : Fill). Suits x s) (sym e) tt
+sector-decided f g s (inr e) v = subst (λ (x : Fill). Suits x s) (sym e) v
 
 -- ---- serve
 
@@ -145,7 +154,7 @@ module _ (p : ℕ) (c : Decision) (M : Machine) (ok : MachineValid M) (k : Decis
         sectorValid =
             running-valid (written (c .effect) v .device .command .fill) (fillSectorAfter (c .effect) (M .sector))
             (sector-after (c .effect) (c .device) (M .disk) (M .sector) (k .effectValid)
-            (sector-decided (c .device .command .fill) (M .device .command .fill) (M .sector) (k .sameFill) (ok .sectorValid)));
+            (sector-decided (c .device .command .fill) (M .device .command .fill) (M .sector) (k .sameFill) (suits (M .device .command .fill) (M .sector) (ok .sectorValid))));
         portsValid = ports-valid p (reply (replyBytes (c .registers) (sent (c .effect) v))) (M .ports) (reply-sized (c .registers) (sent (c .effect) v) (s .0) (s .1)) (ok .portsValid);
         diskValid = w .diskValid;
       }
@@ -155,7 +164,7 @@ module _ (p : ℕ) (c : Decision) (M : Machine) (ok : MachineValid M) (k : Decis
 -- the fill's sector suits the fill
 pub record FillingValid (sector : List ℕ) (v : Volume) : Type 0 where
   pub volumeValid : VolumeValid v
-  pub sectorValid : SectorValid (v .device .command .fill) sector
+  pub sectorValid : Suits (v .device .command .fill) sector
 
 -- what holds of a fill that ended and of one that goes on holds after a sector
 advanced-cases : (P : Device → Type 0) (first next end : ℕ) (d : Device)
@@ -181,14 +190,14 @@ running-step-valid first next end sector v ok s e =
             deviceValid = advanced-valid first next end d (w .deviceValid) e;
             diskValid = advanced-cases (λ x. Sized (sectorSize * x .native) disk) first (suc next) end d (w .diskValid) (w .diskValid);
           };
-      sectorValid = advanced-cases (λ x. SectorValid (x .command .fill) sector) first (suc next) end d tt s;
+      sectorValid = advanced-cases (λ x. Suits (x .command .fill) sector) first (suc next) end d tt s;
     }
 
 sector-step-valid : (sector : List ℕ) (v : Volume) → FillingValid sector v → FillingValid sector (sectorStep sector v)
 unfolding sectorStep
 sector-step-valid sector v ok = go (v .device .command .fill) refl (ok .sectorValid)
   where
-    go : (f : Fill) → v .device .command .fill ≡ f → SectorValid f sector → FillingValid sector (fillStep f sector v)
+    go : (f : Fill) → v .device .command .fill ≡ f → Suits f sector → FillingValid sector (fillStep f sector v)
     go idle e s = ok
     go (running first next end) e s = running-step-valid first next end sector v (ok .volumeValid) s e
 
@@ -201,7 +210,7 @@ unfolding worked workVolume
 work-valid n M ok =
     let w =
     iterate-valid (workCount n (M .device .command .fill)) (M .sector) (volume M)
-    (record { volumeValid = record { deviceValid = ok .deviceValid; diskValid = ok .diskValid }; sectorValid = ok .sectorValid }) in
+    (record { volumeValid = record { deviceValid = ok .deviceValid; diskValid = ok .diskValid }; sectorValid = suits (M .device .command .fill) (M .sector) (ok .sectorValid) }) in
     record {
       deviceValid = w .volumeValid .deviceValid;
       sectorValid = running-valid (workVolume n (M .sector) (volume M) .device .command .fill) (M .sector) (w .sectorValid);
@@ -215,7 +224,7 @@ work-valid n M ok =
 quiet-machine : (d : Device) (M : Machine) → MachineValid M → Valid d → d .native ≡ M .device .native → d .command .fill ≡ idle
     → MachineValid (machine d (M .sector) (M .ports) (M .disk))
 quiet-machine d M ok v same none =
-    record { deviceValid = v; sectorValid = rw none tt; portsValid = ok .portsValid; diskValid = rw same (ok .diskValid) }
+    record { deviceValid = v; sectorValid = rw none; portsValid = ok .portsValid; diskValid = rw same (ok .diskValid) }
 
 interrupt-native : (d : Device) → interrupt d .native ≡ d .native
 interrupt-native d = ap (λ (e : Device). e .native) (interrupt-kept d)
@@ -254,7 +263,7 @@ sample-valid reading M ok h =
             settingsValid = v .settingsValid;
             thermalValid = sampled-valid (M .device .settings .logInterval .state) reading (M .device .thermal) h (v .settingsValid .intervalValid .0) (v .thermalValid);
           };
-      sectorValid = running-valid (M .device .command .fill) (M .sector) (ok .sectorValid);
+      sectorValid = running-valid (M .device .command .fill) (M .sector) (suits (M .device .command .fill) (M .sector) (ok .sectorValid));
       portsValid = ok .portsValid;
       diskValid = ok .diskValid;
     }
@@ -290,7 +299,7 @@ power-on-machine disk image used db ib e =
     let sizes = between-true 1 (length disk / sectorSize) nativeLimit (and-right (eqb (length disk % sectorSize) 0) _ (pass .0)) in
     record {
       deviceValid = restored-valid (length disk / sectorSize) image used (sizes .0) (sizes .1) ib (pass .1 .1 .0);
-      sectorValid = tt;
+      sectorValid = refl;
       portsValid = λ p. tt;
       diskValid =
           record {
@@ -308,7 +317,7 @@ request-held (request m) e v = v
 request-held (reply m) e v = absurd (let z : _≡_ {A = ℕ} 0 1 = cc in omega arith)
 
 sector-kept : (M : Machine) → MachineValid M → SectorValid (M .device .command .fill) (whileRunning (M .device .command .fill) (M .sector))
-sector-kept M ok = running-valid (M .device .command .fill) (M .sector) (ok .sectorValid)
+sector-kept M ok = running-valid (M .device .command .fill) (M .sector) (suits (M .device .command .fill) (M .sector) (ok .sectorValid))
 
 port-changed : (p : ℕ) (x : Port) (M : Machine) → MachineValid M → PortValid x
     → MachineValid (machine (M .device) (M .sector) (withPort p x (M .ports)) (M .disk))

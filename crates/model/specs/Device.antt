@@ -30,7 +30,7 @@ pub record Feature : Type 0 where
   pub state : ℕ
   pub persistent : Bool
 
--- Error recovery timers, in 100 ms, and "feature states: 1 (write cache) ..; 2 (reordering) ..; 3 (log interval)".
+-- Error recovery timers, in 100 ms, and the features: "1 (write cache) ..; 2 (reordering) ..; 3 (log interval)".
 pub record Settings : Type 0 where
   pub readTimer : ℕ
   pub writeTimer : ℕ
@@ -39,7 +39,7 @@ pub record Settings : Type 0 where
   pub logInterval : Feature
 
 -- Temperatures now, the highest of this power cycle and of the device's life; the history, the index of its
--- newest reading, and the minutes since that was logged.
+-- newest reading, and the minutes counted towards the next one.
 pub record Thermal : Type 0 where
   pub now : ℕ
   pub cycleMaximum : ℕ

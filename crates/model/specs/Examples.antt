@@ -30,7 +30,7 @@ wordsKey action function w2 w3 w4 = (0, 2, action) ∷ (2, 2, function) ∷ (4, 
 abbrev pub fresh : Device
 fresh = powerOn (blank 64)
 
--- a fresh device whose maximum of its life is given
+-- a fresh device whose temperatures are all n
 abbrev pub withMaximum : ℕ → Device
 withMaximum n =
     withThermal (record { now = n; cycleMaximum = n; lifeMaximum = n; history = emptyHistory; index = 477; minutes = 0 }) fresh
@@ -40,11 +40,11 @@ pub data Example : Type 0 where
   maximum : ℕ → ℕ → Example
   left : ℕ → ℕ → Example
 
-abbrev pub accepted : List ℕ
-accepted = 0x50 ∷ 0 ∷ 0 ∷ []
+abbrev pub acceptedReply : List ℕ
+acceptedReply = 0x50 ∷ 0 ∷ 0 ∷ []
 
-abbrev pub refused : ℕ → List ℕ
-refused code = 0x51 ∷ 0x04 ∷ code ∷ []
+abbrev pub refusedReply : ℕ → List ℕ
+refusedReply code = 0x51 ∷ 0x04 ∷ code ∷ []
 
 abbrev pub numbers : Registers → List ℕ
 numbers r = r .status ∷ r .error ∷ r .value ∷ []
@@ -59,20 +59,20 @@ evaluate (left count n) = workCount n (running 0 (64 - count) 64) ∷ []
 abbrev pub starred : List (Example × List ℕ)
 starred =
     -- "Start 63, Count 0 accepted." "Start 64, Count 0: 0002h."
-    (key (fillKey 63 0), accepted)
-    ∷ (key (fillKey 64 0), refused 0x0002)
+    (key (fillKey 63 0), acceptedReply)
+    ∷ (key (fillKey 64 0), refusedReply 0x0002)
     -- "Start 0, Count 63 accepted; Count 64: 0002h." "Start 1, Count 2^64-1: 0002h."
-    ∷ (key (fillKey 0 63), accepted)
-    ∷ (key (fillKey 0 64), refused 0x0002)
-    ∷ (key (fillKey 1 (2 ^ 64 - 1)), refused 0x0002)
+    ∷ (key (fillKey 0 63), acceptedReply)
+    ∷ (key (fillKey 0 64), refusedReply 0x0002)
+    ∷ (key (fillKey 1 (2 ^ 64 - 1)), refusedReply 0x0002)
     -- "Action 1: 0010h."
-    ∷ (key (wordsKey 1 1 0 0 0), refused 0x0010)
+    ∷ (key (wordsKey 1 1 0 0 0), refusedReply 0x0010)
     -- "Timer 9 for reads: 0006h; 10 accepted; 0 accepted."
-    ∷ (key (wordsKey 3 1 1 9 0), refused 0x0006)
-    ∷ (key (wordsKey 3 1 1 10 0), accepted)
-    ∷ (key (wordsKey 3 1 1 0 0), accepted)
+    ∷ (key (wordsKey 3 1 1 9 0), refusedReply 0x0006)
+    ∷ (key (wordsKey 3 1 1 10 0), acceptedReply)
+    ∷ (key (wordsKey 3 1 1 0 0), acceptedReply)
     -- "Feature 3 with word 3 = 0 and word 4 = 2: 000Eh."
-    ∷ (key (wordsKey 4 1 3 0 2), refused 0x000E)
+    ∷ (key (wordsKey 4 1 3 0 2), refusedReply 0x000E)
     -- "Maximum F6h, sample 05h: 05h."
     ∷ (maximum 0xF6 0x05, 0x05 ∷ [])
     -- "Work 10 with 3 left: 3."

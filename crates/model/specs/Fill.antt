@@ -25,12 +25,12 @@ startFill first end d = withFill (running first first end) runningCode d
 abbrev pub nothingPending : List Transfer
 nothingPending = replicate portCount none
 
--- "first stops a running fill (code 0008h) ..
+-- "stops a running fill (code 0008h)"
 abbrev pub stopFill : Fill → Device → Device
 stopFill idle d = d
 stopFill (running first next end) d = withFill idle interruptedCode d
 
--- .. and drops an owed transfer"
+-- "first stops a running fill (code 0008h) and drops an owed transfer"
 unfoldable pub interrupt : Device → Device
 interrupt d = withPending nothingPending (stopFill (d .command .fill) d)
 
@@ -49,7 +49,7 @@ writeSector lba sector v = record { device = withInitialized false (v .device); 
 abbrev pub wholeDisk : ℕ → ℕ → ℕ → Bool
 wholeDisk first end visible = eqb first 0 && eqb end visible
 
--- the sector before next has been written
+-- The fill after a sector, with next the sector behind it: "at end the fill is over".
 abbrev pub advanced : ℕ → ℕ → ℕ → Device → Device
 advanced first next end d =
     if eqb next end
@@ -74,7 +74,7 @@ abbrev pub remaining : Fill → ℕ
 remaining idle = 0
 remaining (running first next end) = end - next
 
--- "k is the lesser of n and end - next (0 with no fill)"
+-- "k is the lesser of n and end - next (0 with no fill)"; "None running, or n = 0: reports 0."
 unfoldable pub workCount : ℕ → Fill → ℕ
 workCount n f = min n (remaining f)
 

@@ -148,7 +148,8 @@ readable image used =
     && leb used (entrySize * entryLimit)
     && every (entries used) (entryHolds (newest image used .native) image)
 
--- "Reading starts at the last trailer and follows the chain back": n entries, the last trailer at a place.
+-- "Reading starts at the last trailer and follows the chain back": n entries, the last trailer at a place. It says the same as
+-- "every entry" above (proofs/ImageLaws.antt, chain-every), and is what the code does.
 unfoldable pub chainHolds : ℕ → List ℕ → ℕ → ℕ → Bool
 chainHolds native image zero at = eqb at 0xFFFFFFFF
 chainHolds native image (suc k) at =
@@ -160,10 +161,11 @@ sameDisk native image used = eqb used 0 || eqb (newest image used .native) nativ
 
 -- ---- save
 
--- "full: .. image has 117 entries, or its buffer lacks 560 more bytes"
+-- "on a save only: image has 117 entries, or its buffer lacks 560 more bytes"
 abbrev pub hasRoom : List ℕ → ℕ → Bool
 hasRoom image used = ltb (entries used) entryLimit && leb (used + entrySize) (length image)
 
+-- "an image's used length exceeds its buffer" comes first
 abbrev pub saveChecks : ℕ → List ℕ → ℕ → List Check
 saveChecks native image used =
     (leb used (length image), badLength)
@@ -178,7 +180,7 @@ savedImage d image used = sets image used (bodyBytes (savedFrom d) ++ trailerByt
 
 -- ---- power-on
 
--- "a lent run of 1 to 65,536 sectors": "power-on: not 1 to 65,536 whole sectors" is 2
+-- "power-on: not 1 to 65,536 whole sectors"
 abbrev pub wholeSectors : ℕ → Bool
 wholeSectors size = eqb (size % sectorSize) 0 && between 1 (size / sectorSize) nativeLimit
 

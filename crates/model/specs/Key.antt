@@ -1,6 +1,6 @@
 -- The key sector: its checks in the paper's order, and what an accepted key asks.
 use mathlib.Core.Bool.{Bool, true, false, not, _&&_, _||_}
-use Prim.Native.Nat.{ℕ, zero, suc, _+_, _-_, _*_, _<_}
+use Prim.Native.Nat.{ℕ, zero, suc, _+_, _-_, _*_}
 use mathlib.Core.List.{List, [], _∷_}
 use lib.Dec.{eqb, leb, ltb}
 use Rattle.wire.specs.Choice.{if_then_else_, between, Check, firstFailed}
@@ -13,7 +13,7 @@ use Rattle.model.specs.Registers.{Direction, read, write}
 abbrev pub word : List ℕ → ℕ → ℕ
 word k i = get 2 k (2 * i)
 
--- "2 fill: .. Start bytes 4-11, Count 12-19"
+-- "Start bytes 4-11, Count 12-19"
 abbrev pub start : List ℕ → ℕ
 start k = get 8 k 4
 
@@ -26,7 +26,7 @@ lastLba visible = visible - 1
 
 -- ---- the checks: a row is what must hold, and the code given where it does not
 
--- "1 pattern, 2 sector; else 0001h"; "Start above last user LBA, or Start + Count above last user LBA: 0002h"
+-- Action 2: "1 pattern, 2 sector; else 0001h"; "Start above last user LBA, or Start + Count above last user LBA: 0002h"
 -- "Start + Count is a whole-number sum; it never wraps."
 abbrev pub fillChecks : ℕ → List ℕ → List Check
 fillChecks visible k =
@@ -35,7 +35,7 @@ fillChecks visible k =
     ∷ (leb (start k + count k) (lastLba visible), 0x0002)
     ∷ []
 
--- "1 set, 2 return; else 0004h"; "word 2 is 1 read or 2 write, else 0005h";
+-- Action 3: "1 set, 2 return; else 0004h"; "word 2 is 1 read or 2 write, else 0005h";
 -- "set: word 3 in 100 ms, 1 to 9 gives 0006h (read) or 0007h (write); 0 is off"
 abbrev pub timerChecks : List ℕ → List Check
 timerChecks k =
@@ -48,7 +48,7 @@ timerChecks k =
 abbrev pub highestState : ℕ → ℕ
 highestState feature = if eqb feature 1 then 3 else if eqb feature 2 then 2 else 65535
 
--- "1 set, 2 state, 3 options; else 000Ch"; "word 2 is 1 to 3, else 000Dh";
+-- Action 4: "1 set, 2 state, 3 options; else 000Ch"; "word 2 is 1 to 3, else 000Dh";
 -- "set only: word 3 invalid 000Eh, then word 4 other than 0 or 1 000Fh"
 abbrev pub featureChecks : List ℕ → List Check
 featureChecks k =
@@ -58,7 +58,7 @@ featureChecks k =
     ∷ (not (eqb (word k 1) 1) || leb (word k 4) 1, 0x000F)
     ∷ []
 
--- "5 table: 1; else 0001h"; "word 2 is 2, else 0011h"
+-- Action 5: "1; else 0001h"; "word 2 is 2, else 0011h"
 abbrev pub tableChecks : List ℕ → List Check
 tableChecks k = (eqb (word k 1) 1, 0x0001) ∷ (eqb (word k 2) 2, 0x0011) ∷ []
 
@@ -70,7 +70,7 @@ actionChecks visible k =
     else if eqb (word k 0) 4 then featureChecks k
     else tableChecks k
 
--- "any, locked: 0012h"; "not 2 to 5: 0010h"
+-- The lock comes first, with 0012h; then an action that is "not 2 to 5", with 0010h.
 unfoldable pub keyChecks : Device → List ℕ → List Check
 keyChecks d k = (not (d .locked), 0x0012) ∷ (between 2 (word k 0) 5, 0x0010) ∷ actionChecks (d .visible) k
 

@@ -44,8 +44,8 @@ lbaMid16 m = get 2 m 6
 abbrev pub lbaHigh : List ℕ → ℕ
 lbaHigh m = getD m 8 0
 
-abbrev pub command : List ℕ → ℕ
-command m = getD m 11 0
+abbrev pub commandByte : List ℕ → ℕ
+commandByte m = getD m 11 0
 
 -- "the 48-bit LBA, previous bytes giving bits 24 to 47 (document 004)"
 unfoldable pub lba48 : List ℕ → ℕ
@@ -83,13 +83,14 @@ unfoldable pub logExt : Direction → List ℕ → Request
 logExt d m = if eqb (lbaMid16 m) 0 then logPage d (lbaLow m) (count16 m) else other
 
 -- "24h and 34h: read or write one sector at the 48-bit LBA"
+-- "Input bytes 10 and 12 to 15 are ignored; for B0h so are the previous bytes, and so is every register that a rule below doesn't name."
 unfoldable pub requestOf : List ℕ → Request
 requestOf m =
-    if eqb (command m) 0xB0 then smartLog m
-    else if eqb (command m) 0x2F then logExt read m
-    else if eqb (command m) 0x3F then logExt write m
-    else if eqb (command m) 0x24 then sectorAccess read (count16 m) (lba48 m)
-    else if eqb (command m) 0x34 then sectorAccess write (count16 m) (lba48 m)
+    if eqb (commandByte m) 0xB0 then smartLog m
+    else if eqb (commandByte m) 0x2F then logExt read m
+    else if eqb (commandByte m) 0x3F then logExt write m
+    else if eqb (commandByte m) 0x24 then sectorAccess read (count16 m) (lba48 m)
+    else if eqb (commandByte m) 0x34 then sectorAccess write (count16 m) (lba48 m)
     else other
 
 -- ---- replies

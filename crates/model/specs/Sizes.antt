@@ -41,7 +41,7 @@ trailerSize = 16
 abbrev pub entrySize : ℕ
 entrySize = bodySize + trailerSize
 
--- "full: on a save only: image has 117 entries"; "The used length is .. at most 65,520".
+-- "image has 117 entries"; "The used length is a multiple of 560, at most 65,520"
 abbrev pub entryLimit : ℕ
 entryLimit = 117
 

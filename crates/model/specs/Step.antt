@@ -65,8 +65,8 @@ isReply empty = false
 isReply (request m) = false
 isReply (reply m) = true
 
--- "1 port: port above 3"; "2 length: a lent buffer isn't of its size"; "3 stage: slot not in the stage the step needs";
--- "5 value: V asked is 0 or above N"
+-- Port: "port above 3"; length: "a lent buffer isn't of its size"; stage: "slot not in the stage the step needs";
+-- value: "V asked is 0 or above N".
 abbrev pub checks : Step → Machine → List Check
 checks (take p m) M = (eqb (length m) mailboxSize, badLength) ∷ (ltb p portCount, badPort) ∷ (isEmpty (M .ports p), badStage) ∷ []
 checks (serve s) M = (ltb (s .port) portCount, badPort) ∷ (isRequest (M .ports (s .port)), badStage) ∷ []
@@ -81,8 +81,8 @@ checks (powerOn image used) M = powerOnChecks (M .disk) image used
 
 -- ---- what is seen
 
-abbrev pub answered : ℕ → Seen
-answered n = record { answer = n; count = 0; mailbox = []; image = []; used = 0 }
+abbrev pub answerOnly : ℕ → Seen
+answerOnly n = record { answer = n; count = 0; mailbox = []; image = []; used = 0 }
 
 abbrev pub answeredMailbox : ℕ → List ℕ → Seen
 answeredMailbox n m = record { answer = n; count = 0; mailbox = m; image = []; used = 0 }
@@ -93,35 +93,35 @@ answeredImage n image used = record { answer = n; count = 0; mailbox = []; image
 -- an answer that leaves the buffers as they were lent
 abbrev pub unchanged : Step → ℕ → Seen
 unchanged (take p m) n = answeredMailbox n m
-unchanged (serve s) n = answered n
+unchanged (serve s) n = answerOnly n
 unchanged (give p m) n = answeredMailbox n m
-unchanged (work k) n = answered n
-unchanged lock n = answered n
-unchanged unlock n = answered n
-unchanged (setVisible v) n = answered n
-unchanged (sample reading) n = answered n
+unchanged (work k) n = answerOnly n
+unchanged lock n = answerOnly n
+unchanged unlock n = answerOnly n
+unchanged (setVisible v) n = answerOnly n
+unchanged (sample reading) n = answerOnly n
 unchanged (save image used) n = answeredImage n image used
 unchanged (powerOn image used) n = answeredImage n image used
 
 -- what is seen of a step that is done
-abbrev pub seen : Step → Machine → Seen
-seen (take p m) M = unchanged (take p m) done
-seen (serve s) M = unchanged (serve s) done
-seen (give p m) M = answeredMailbox done (heldBytes (M .ports p))
-seen (work n) M = record { answer = done; count = workCount n (M .device .command .fill); mailbox = []; image = []; used = 0 }
-seen lock M = unchanged lock done
-seen unlock M = unchanged unlock done
-seen (setVisible v) M = unchanged (setVisible v) done
-seen (sample reading) M = unchanged (sample reading) done
-seen (save image used) M = answeredImage done (savedImage (M .device) image used) (used + entrySize)
-seen (powerOn image used) M = unchanged (powerOn image used) done
+abbrev pub seenDone : Step → Machine → Seen
+seenDone (take p m) M = unchanged (take p m) done
+seenDone (serve s) M = unchanged (serve s) done
+seenDone (give p m) M = answeredMailbox done (heldBytes (M .ports p))
+seenDone (work n) M = record { answer = done; count = workCount n (M .device .command .fill); mailbox = []; image = []; used = 0 }
+seenDone lock M = unchanged lock done
+seenDone unlock M = unchanged unlock done
+seenDone (setVisible v) M = unchanged (setVisible v) done
+seenDone (sample reading) M = unchanged (sample reading) done
+seenDone (save image used) M = answeredImage done (savedImage (M .device) image used) (used + entrySize)
+seenDone (powerOn image used) M = unchanged (powerOn image used) done
 
 -- ---- what is done
 
 abbrev pub volume : Machine → Volume
 volume M = record { device = M .device; disk = M .disk }
 
--- "Serve carries it out whole by the rules above; the reply replaces it."
+-- "Serve carries it out whole by the rules above; the reply replaces it." It "answers the held request from the slot alone".
 unfoldable pub serveDecided : ℕ → Decision → Machine → Machine
 serveDecided p c M =
     let decided : Volume = record { device = c .device; disk = M .disk } in
@@ -144,6 +144,7 @@ onDevice f M = machine (f (M .device)) (M .sector) (M .ports) (M .disk)
 unfoldable pub poweredOn : List ℕ → List ℕ → ℕ → Machine
 poweredOn disk image used = machine (powerOnDevice (restored (length disk / sectorSize) image used)) [] (λ i. empty) disk
 
+-- "Take copies all 528 bytes before anything is judged. Bytes torn by a core during the copy are simply the request."
 -- "Take keeps the mailbox as the port's request. .. Give delivers it and clears the port. .. Owner steps go by their rules."
 abbrev pub does : Step → Machine → Machine
 does (take p m) M = machine (M .device) (M .sector) (withPort p (request m) (M .ports)) (M .disk)
@@ -166,7 +167,7 @@ attempt n s refusal success = ifPassed n success (record { state = s; seen = ref
 unfoldable pub step : Step → Machine → Outcome Machine
 step x M =
     let n = firstFailed (checks x M) in
-    attempt n M (unchanged x n) (record { state = does x M; seen = seen x M })
+    attempt n M (unchanged x n) (record { state = does x M; seen = seenDone x M })
 
 -- the outcome of every step of a list, each from the state that the last one left
 abbrev pub trace : {S : Type 0} → (Step → S → Outcome S) → List Step → S → List (Outcome S)

@@ -89,8 +89,9 @@ pub record Sized (n : ℕ) (l : List ℕ) : Type 0 where
   pub size : length l ≡ n
   pub bytes : Bytes l
 
+-- a fill has its sector, and without a fill there is none
 abbrev pub SectorValid : Fill → List ℕ → Type 0
-SectorValid idle sector = Unit {0}
+SectorValid idle sector = sector ≡ []
 SectorValid (running first next end) sector = Sized sectorSize sector
 
 abbrev pub PortValid : Port → Type 0

@@ -1,0 +1,100 @@
+-- The answer table of document 01, row by row: a step that passes the rows before and fails this one has this answer.
+use mathlib.Core.Path.{_≡_, refl, sym, ap, _∙_}
+use mathlib.Core.Bool.{Bool, true, false, _&&_, _||_}
+use Prim.Native.Nat.{ℕ, zero, suc, _+_, _/_, _≤_, _<_}
+use native.Mathlib.Omega.{arith}
+use mathlib.Core.List.{List, [], _∷_}
+use lib.ListN.{length}
+use lib.Dec.{eqb, leb, ltb}
+use borrow.Author.Tests.{eq-eqb, ne-eqb, lt-ltb, le-ltb, lt-leb, le-leb}
+use Rattle.wire.specs.Choice.{if_then_else_, between, firstFailed}
+use Rattle.model.specs.Sizes.{portCount, mailboxSize, entrySize}
+use Rattle.model.specs.Image.{readable, sameDisk, hasRoom, wholeSectors, powerOnChecks}
+use Rattle.model.specs.Machine.{Port, Machine}
+use Rattle.model.specs.Step.{Step, take, serve, give, work, lock, unlock, setVisible, sample, save, powerOn, isEmpty, isRequest, isReply, Outcome, checks, step}
+use Rattle.model.proofs.StepLaws.{answer-is}
+
+abbrev pub answerOf : Step → Machine → ℕ
+answerOf x M = step x M .seen .answer
+
+-- ---- take, serve, give
+
+module _ (p : ℕ) (m : List ℕ) (M : Machine) where
+  pub take-length : (length m ≡ mailboxSize → ⊥) → answerOf (take p m) M ≡ 2
+  take-length ne = answer-is (take p m) M ∙ rw (ne-eqb (length m) mailboxSize ne)
+
+  pub take-port : length m ≡ mailboxSize → 4 ≤ p → answerOf (take p m) M ≡ 1
+  take-port e h = answer-is (take p m) M ∙ rw (eq-eqb (length m) mailboxSize e, le-ltb p portCount h)
+
+  pub take-stage : length m ≡ mailboxSize → p < 4 → isEmpty (M .ports p) ≡ false → answerOf (take p m) M ≡ 3
+  take-stage e h s = answer-is (take p m) M ∙ rw (eq-eqb (length m) mailboxSize e, lt-ltb p portCount h, s)
+
+  pub give-length : (length m ≡ mailboxSize → ⊥) → answerOf (give p m) M ≡ 2
+  give-length ne = answer-is (give p m) M ∙ rw (ne-eqb (length m) mailboxSize ne)
+
+  pub give-port : length m ≡ mailboxSize → 4 ≤ p → answerOf (give p m) M ≡ 1
+  give-port e h = answer-is (give p m) M ∙ rw (eq-eqb (length m) mailboxSize e, le-ltb p portCount h)
+
+  pub give-stage : length m ≡ mailboxSize → p < 4 → isReply (M .ports p) ≡ false → answerOf (give p m) M ≡ 3
+  give-stage e h s = answer-is (give p m) M ∙ rw (eq-eqb (length m) mailboxSize e, lt-ltb p portCount h, s)
+
+  pub serve-port : 4 ≤ p → answerOf (serve (record { port = p })) M ≡ 1
+  serve-port h = answer-is (serve (record { port = p })) M ∙ rw (le-ltb p portCount h)
+
+  pub serve-stage : p < 4 → isRequest (M .ports p) ≡ false → answerOf (serve (record { port = p })) M ≡ 3
+  serve-stage h s = answer-is (serve (record { port = p })) M ∙ rw (lt-ltb p portCount h, s)
+
+-- ---- work, lock, unlock and sample are never refused
+
+pub work-answers : (n : ℕ) (M : Machine) → answerOf (work n) M ≡ 0
+work-answers n M = answer-is (work n) M
+
+pub lock-answers : (M : Machine) → (answerOf lock M ≡ 0) × (answerOf unlock M ≡ 0)
+lock-answers M = (answer-is lock M, answer-is unlock M)
+
+pub sample-answers : (reading : ℕ) (M : Machine) → answerOf (sample reading) M ≡ 0
+sample-answers reading M = answer-is (sample reading) M
+
+-- ---- set V: "V asked is 0 or above N"
+
+pub visible-zero : (M : Machine) → answerOf (setVisible 0) M ≡ 5
+visible-zero M = answer-is (setVisible 0) M
+
+pub visible-above : (v : ℕ) (M : Machine) → M .device .native < v → answerOf (setVisible v) M ≡ 5
+visible-above v M h = answer-is (setVisible v) M ∙ rw (le-leb 1 v (omega arith), lt-leb v (M .device .native) h)
+
+-- ---- save and power-on
+
+module _ (image : List ℕ) (used : ℕ) (M : Machine) where
+  pub save-length : length image < used → answerOf (save image used) M ≡ 2
+  save-length h = answer-is (save image used) M ∙ rw (lt-leb used (length image) h)
+
+  module _ (fits : used ≤ length image) where
+    pub save-unreadable : readable image used ≡ false → answerOf (save image used) M ≡ 6
+    save-unreadable r = answer-is (save image used) M ∙ rw (le-leb used (length image) fits, r)
+
+    pub save-other : readable image used ≡ true → sameDisk (M .device .native) image used ≡ false → answerOf (save image used) M ≡ 7
+    save-other r d = answer-is (save image used) M ∙ rw (le-leb used (length image) fits, r, d)
+
+    pub save-full : readable image used ≡ true → sameDisk (M .device .native) image used ≡ true → hasRoom image used ≡ false → answerOf (save image used) M ≡ 8
+    save-full r d f = answer-is (save image used) M ∙ rw (le-leb used (length image) fits, r, d, f)
+
+-- a first power-on, on any disk
+module _ (disk image : List ℕ) (used : ℕ) where
+  pub power-on-disk : wholeSectors (length disk) ≡ false → firstFailed (powerOnChecks disk image used) ≡ 2
+  power-on-disk w = rw w
+
+  pub power-on-length : wholeSectors (length disk) ≡ true → length image < used → firstFailed (powerOnChecks disk image used) ≡ 2
+  power-on-length w h = rw (w, lt-leb used (length image) h)
+
+  module _ (whole : wholeSectors (length disk) ≡ true) (fits : used ≤ length image) where
+    pub power-on-unreadable : readable image used ≡ false → firstFailed (powerOnChecks disk image used) ≡ 6
+    power-on-unreadable r = rw (whole, le-leb used (length image) fits, r)
+
+    pub power-on-other : readable image used ≡ true → sameDisk (length disk / 512) image used ≡ false → firstFailed (powerOnChecks disk image used) ≡ 7
+    power-on-other r d = rw (whole, le-leb used (length image) fits, r, d)
+
+  -- "Power-on from length 0" is never refused for its image
+  pub power-on-empty : wholeSectors (length disk) ≡ true → firstFailed (powerOnChecks disk image 0) ≡ 0
+  unfolding readable
+  power-on-empty whole = rw (whole, le-leb 0 (length image) (omega arith))
