@@ -36,7 +36,7 @@ seen-done (sample reading) M = refl
 seen-done (save image used) M = refl
 seen-done (powerOn image used) M = refl
 
-unchanged-answer : (x : Step) (n : ℕ) → unchanged x n .answer ≡ n
+pub unchanged-answer : (x : Step) (n : ℕ) → unchanged x n .answer ≡ n
 unchanged-answer (take p m) n = refl
 unchanged-answer (serve s) n = refl
 unchanged-answer (give p m) n = refl

@@ -70,7 +70,7 @@ written-valid (beginFill first end sector) v ok k =
     record { deviceValid = start-valid first end (v .device) (ok .deviceValid) (k .3) (k .0) (k .1); diskValid = ok .diskValid }
 
 -- what a reply carries is at most a sector of bytes
-sent-valid : (e : Effect) (v : Volume) → VolumeValid v → EffectValid (v .device) e → (length (sent e v) ≤ sectorSize) × Bytes (sent e v)
+pub sent-valid : (e : Effect) (v : Volume) → VolumeValid v → EffectValid (v .device) e → (length (sent e v) ≤ sectorSize) × Bytes (sent e v)
 unfolding statusSector
 sent-valid nothing v ok k = (omega arith, bytes-nil)
 sent-valid sendStatus v ok k =
@@ -140,10 +140,10 @@ written-native (writeLba lba sector) v = refl
 written-native (beginFill first end sector) v = refl
 
 module _ (p : ℕ) (c : Decision) (M : Machine) (ok : MachineValid M) (k : DecisionValid (M .device) c) where
-  decided-volume : VolumeValid (record { device = c .device; disk = M .disk })
+  pub decided-volume : VolumeValid (record { device = c .device; disk = M .disk })
   decided-volume = record { deviceValid = k .deviceValid; diskValid = rw (k .sameSizes .0) (ok .diskValid) }
 
-  serve-valid : MachineValid (serveDecided p c M)
+  pub serve-valid : MachineValid (serveDecided p c M)
   unfolding serveDecided
   serve-valid =
       let v : Volume = record { device = c .device; disk = M .disk } in
@@ -324,7 +324,7 @@ port-changed : (p : ℕ) (x : Port) (M : Machine) → MachineValid M → PortVal
 port-changed p x M ok v =
     record { deviceValid = ok .deviceValid; sectorValid = sector-kept M ok; portsValid = ports-valid p x (M .ports) v (ok .portsValid); diskValid = ok .diskValid }
 
-does-valid : (x : Step) (M : Machine) → Fed x → MachineValid M → firstFailed (checks x M) ≡ 0 → MachineValid (does x M)
+pub does-valid : (x : Step) (M : Machine) → Fed x → MachineValid M → firstFailed (checks x M) ≡ 0 → MachineValid (does x M)
 unfolding served
 does-valid (take p m) M fed ok e =
     let pass = all-pass 8 (checks (take p m) M) (answers-numbered (take p m) M) e in

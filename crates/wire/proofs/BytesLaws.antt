@@ -12,7 +12,7 @@ use borrow.Author.Tests.{eqb-true, eq-eqb}
 use Rattle.wire.specs.Numbers.{le, get, put}
 use Rattle.wire.specs.Parts.{part, zeros, padded, repeated}
 use Rattle.wire.specs.Layout.{Field, stores, form}
-use Rattle.wire.specs.Bytes.{Bytes, same}
+use Rattle.wire.specs.Bytes.{Bytes, same, allZero}
 use Rattle.wire.proofs.ChoiceLaws.{and-left, and-right}
 
 pub bytes-tail : (x : ℕ) (l : List ℕ) → Bytes (x ∷ l) → Bytes l
@@ -102,3 +102,18 @@ same-true (a ∷ xs) (b ∷ ys) h =
     ap₂ (λ (x : ℕ) (l : List ℕ). x ∷ l)
     (eqb-true a b (and-left (eqb a b) (same xs ys) h))
     (same-true xs ys (and-right (eqb a b) (same xs ys) h))
+
+-- ---- zeros
+
+-- every byte of a run of zeros is 0 ..
+pub all-zero-true : (l : List ℕ) → allZero l ≡ true → (i : ℕ) → getD l i 0 ≡ 0
+unfolding allZero
+all-zero-true [] h i = refl
+all-zero-true (x ∷ l) h zero = eqb-true x 0 (and-left (eqb x 0) (allZero l) h)
+all-zero-true (x ∷ l) h (suc i) = all-zero-true l (and-right (eqb x 0) (allZero l) h) i
+
+-- .. and a run whose every byte is 0 is one
+pub zero-all-true : (l : List ℕ) → ((i : ℕ) → i < length l → getD l i 0 ≡ 0) → allZero l ≡ true
+unfolding allZero
+zero-all-true [] h = refl
+zero-all-true (x ∷ l) h = rw (eq-eqb x 0 (h 0 (omega arith)), zero-all-true l (λ i b. h (suc i) (omega arith)))

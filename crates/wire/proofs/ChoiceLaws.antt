@@ -3,6 +3,7 @@ use mathlib.Core.Path.{_≡_, refl, sym, ap, _∙_}
 use mathlib.Core.Bool.{Bool, true, false, _&&_}
 use Prim.Native.Nat.{ℕ, zero, suc, _≤_, _<_}
 use native.Mathlib.Omega.{arith}
+use native.Mathlib.Decide.{decLt}
 use mathlib.Core.List.{List, [], _∷_, _++_}
 use borrow.Author.Tests.{leb-true, le-leb}
 use lib.Dec.{leb}
@@ -18,6 +19,15 @@ and-right false b h = cc
 
 pub and-both : (a b : Bool) → a ≡ true → b ≡ true → (a && b) ≡ true
 and-both a b p q = rw (p, q)
+
+-- && groups to the left: a && b && c is (a && b) && c
+pub and-three : (a b c : Bool) → (a && b && c) ≡ true → (a ≡ true) × (b ≡ true) × (c ≡ true)
+and-three a b c h =
+    let ab = and-left (a && b) c h in
+    (and-left a b ab, and-right a b ab, and-right (a && b) c h)
+
+pub three-and : (a b c : Bool) → a ≡ true → b ≡ true → c ≡ true → (a && b && c) ≡ true
+three-and a b c p q r = rw (p, q, r)
 
 pub between-true : (low x high : ℕ) → between low x high ≡ true → (low ≤ x) × (x ≤ high)
 between-true low x high h =
@@ -70,3 +80,23 @@ pub first-decides : (before : List Check) (number : ℕ) (behind : List Check) �
     → firstFailed (before ++ (false, number) ∷ behind) ≡ number
 first-decides [] number behind p = refl
 first-decides (c ∷ cs) number behind p = rw (p .0) (first-decides cs number behind (p .1))
+
+-- ---- a test over all numbers below a bound
+
+abbrev pub below : ℕ → (ℕ → Bool) → Bool
+below zero f = true
+below (suc n) f = f n && below n f
+
+pub below-all : (n : ℕ) (f : ℕ → Bool) → below n f ≡ true → (i : ℕ) → i < n → f i ≡ true
+below-all zero f h i b = absurd (omega arith)
+below-all (suc n) f h i b = go (decLt i n) (below-all n f (and-right (f n) (below n f) h) i)
+  where
+    go : Dec (i < n) → (i < n → f i ≡ true) → f i ≡ true
+    go (yes k) rest = rest k
+    go (no k) rest = let last : i ≡ n = omega arith in ap f last ∙ and-left (f n) (below n f) h
+
+-- two tests that follow from each other are the same
+pub tests-same : (a b : Bool) → (a ≡ true → b ≡ true) → (b ≡ true → a ≡ true) → a ≡ b
+tests-same true b f g = sym (f refl)
+tests-same false true f g = g refl
+tests-same false false f g = refl

@@ -3,7 +3,7 @@ use mathlib.Core.Path.{_≡_, refl, sym, ap, _∙_}
 use mathlib.Core.Bool.{Bool, true, false, _&&_, _||_}
 use Prim.Native.Nat.{ℕ, zero, suc, _+_, _^_, _≤_, _<_}
 use native.Mathlib.Omega.{arith}
-use mathlib.Core.List.{List, [], _∷_}
+use mathlib.Core.List.{List, [], _∷_, _++_}
 use lib.ListN.{length, getD}
 use lib.Dec.{leb, ltb}
 use borrow.Author.Tests.{leb-true, ltb-true}
@@ -11,7 +11,7 @@ use Rattle.wire.specs.Numbers.{le, get, put}
 use Rattle.wire.specs.Parts.{zeros}
 use Rattle.wire.specs.Layout.{Field, stores, form, ordered, Fit, Reads, outside}
 use Rattle.wire.proofs.ChoiceLaws.{and-left, and-right}
-use Rattle.wire.proofs.NumbersLaws.{get-put, get-sets-before, getD-sets-before, getD-sets-after, length-le, length-put}
+use Rattle.wire.proofs.NumbersLaws.{get-put, get-append-left, get-sets-before, getD-sets-before, getD-sets-after, length-le, length-put}
 use Rattle.wire.proofs.PartsLaws.{length-zeros, getD-zeros}
 
 pub length-stores : (fs : List Field) (s : List ℕ) → length (stores fs s) ≡ length s
@@ -23,7 +23,7 @@ unfolding form
 length-form n fs = length-stores fs (zeros n) ∙ length-zeros n
 
 -- the last field ends within the n bytes
-ordered-end : (fs : List Field) (from n : ℕ) → ordered from n fs ≡ true → from ≤ n
+pub ordered-end : (fs : List Field) (from n : ℕ) → ordered from n fs ≡ true → from ≤ n
 ordered-end [] from n h = leb-true from n h
 ordered-end (f ∷ fs) from n h =
     omega (
@@ -74,3 +74,25 @@ stores-outside (f ∷ fs) s i h =
 pub form-outside : (n : ℕ) (fs : List Field) (i : ℕ) → outside fs i ≡ true → getD (form n fs) i 0 ≡ 0
 unfolding form
 form-outside n fs i h = stores-outside fs (zeros n) i h ∙ getD-zeros n i
+
+-- ---- groups of fields
+
+pub fit-append : (fs gs : List Field) → Fit fs → Fit gs → Fit (fs ++ gs)
+fit-append [] gs f g = g
+fit-append (x ∷ fs) gs f g = (f .0, fit-append fs gs (f .1) g)
+
+pub reads-append : (fs gs : List Field) (s : List ℕ) → Reads (fs ++ gs) s → Reads fs s × Reads gs s
+reads-append [] gs s r = (tt, r)
+reads-append (x ∷ fs) gs s r = let w = reads-append fs gs s (r .1) in ((r .0, w .0), w .1)
+
+pub reads-both : (fs gs : List Field) (s : List ℕ) → Reads fs s → Reads gs s → Reads (fs ++ gs) s
+reads-both [] gs s f g = g
+reads-both (x ∷ fs) gs s f g = (f .0, reads-both fs gs s (f .1) g)
+
+-- what is read from the first of two runs is read from both
+pub reads-front : (fs : List Field) (from n : ℕ) (xs ys : List ℕ) → ordered from n fs ≡ true → n ≤ length xs → Reads fs xs → Reads fs (xs ++ ys)
+reads-front [] from n xs ys o h r = tt
+reads-front (f ∷ fs) from n xs ys o h r =
+    let o′ = and-right (leb from (f .0)) (ordered (f .0 + f .1) n fs) o in
+    let fits = ordered-end fs (f .0 + f .1) n o′ in
+    (get-append-left (f .1) xs ys (f .0) (omega arith) ∙ r .0, reads-front fs (f .0 + f .1) n xs ys o′ h (r .1))

@@ -4,3 +4,4 @@ pub mod NumbersLaws
 pub mod PartsLaws
 pub mod LayoutLaws
 pub mod BytesLaws
+pub mod FormUnique

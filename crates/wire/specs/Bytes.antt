@@ -1,4 +1,4 @@
--- Runs of bytes: every element is below 256; whether two runs are the same.
+-- Runs of bytes: every element is below 256; whether two runs are the same; whether a run is all zeros.
 use mathlib.Core.Bool.{Bool, true, false, _&&_}
 use Prim.Native.Nat.{ℕ, _<_}
 use mathlib.Core.List.{List, [], _∷_}
@@ -13,3 +13,7 @@ same [] [] = true
 same [] (b ∷ ys) = false
 same (a ∷ xs) [] = false
 same (a ∷ xs) (b ∷ ys) = eqb a b && same xs ys
+
+unfoldable pub allZero : List ℕ → Bool
+allZero [] = true
+allZero (x ∷ l) = eqb x 0 && allZero l

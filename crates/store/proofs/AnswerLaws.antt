@@ -1,0 +1,240 @@
+-- Condition 1, and which answers a list of steps can give.
+use mathlib.Core.Path.{_≡_, refl, sym, ap, _∙_}
+use mathlib.Core.Bool.{Bool, true, false, _&&_}
+use mathlib.Core.Logic.{_↔_}
+use Prim.Native.Nat.{ℕ, zero, suc, _+_, _*_, _/_, _%_, _≤_, _<_}
+use native.Mathlib.Omega.{arith}
+use mathlib.Core.List.{List, [], _∷_}
+use lib.ListN.{length, drop}
+use lib.Dec.{eqb, leb, ltb}
+use borrow.Author.Tests.{eqb-true, eqb-false, eq-eqb, leb-true, leb-false, le-leb}
+use Rattle.wire.specs.Choice.{if_then_else_, Check, firstFailed}
+use Rattle.wire.specs.Bytes.{Bytes}
+use Rattle.wire.proofs.ChoiceLaws.{AllPass, Numbered, between-within, first-bound, all-pass, pass-all}
+use Rattle.model.specs.Sizes.{sectorSize, nativeLimit, mailboxSize, entrySize}
+use Rattle.model.specs.Image.{wholeSectors, readable, sameDisk, savedImage}
+use Rattle.model.specs.Image.{saveChecks as imageChecks}
+use Rattle.model.specs.Machine.{Port, Machine, request}
+use Rattle.model.specs.Step.{Step, take, serve, give, work, lock, unlock, setVisible, sample, save, powerOn, Seen, Outcome, checks, unchanged, step}
+use Rattle.model.specs.Valid.{Fed, MachineValid}
+use Rattle.model.proofs.StepLaws.{keepsOrder, unchanged-answer, answer-is, step-done, step-refused}
+use Rattle.model.proofs.TakenLaws.{Each, LeavesRequest, after, requests-stay}
+use Rattle.model.proofs.RefusalLaws.{power-on-empty}
+use Rattle.model.proofs.SaveLaws.{power-on-after-save}
+use Rattle.store.specs.Areas.{recordSize, privateSize}
+use Rattle.store.specs.Record.{decode}
+use Rattle.store.specs.Store.{Store, machineOf}
+use Rattle.store.specs.Entries.{powerOnChecks, powerOnBytes}
+use Rattle.store.specs.OnStore.{store, onStore}
+use Rattle.store.proofs.EntryLaws.{storeChecks, doneStore, doneSeen, on-refused, on-done}
+use Rattle.store.proofs.FollowLaws.{StoreValid, contents-valid, machine-valid}
+use Rattle.store.proofs.StepFollows.{Follows, follows}
+use Rattle.store.proofs.Condition3Holds.{power-on-answer}
+
+-- ---- condition 1: "Every entry refuses bad input by number and returns for every input"
+
+-- "Order where several apply: 4, 2, 1, 5, 3, 6, 7, 8."
+pub entry-order : (x : Step) (s : Store) → keepsOrder 0 (storeChecks x s) ≡ true × Numbered 8 (storeChecks x s)
+entry-order (take p m) s = (refl, omega arith)
+entry-order (serve x) s = (refl, omega arith)
+entry-order (give p m) s = (refl, omega arith)
+entry-order (work n) s = (refl, omega arith)
+entry-order lock s = (refl, omega arith)
+entry-order unlock s = (refl, omega arith)
+entry-order (setVisible v) s = (refl, omega arith)
+entry-order (sample reading) s = (refl, omega arith)
+entry-order (save image used) s = (refl, omega arith)
+entry-order (powerOn image used) s = (refl, omega arith)
+
+done-answer : (x : Step) (s : Store) → doneSeen x s .answer ≡ 0
+done-answer (take p m) s = refl
+done-answer (serve x) s = refl
+done-answer (give p m) s = refl
+done-answer (work n) s = refl
+done-answer lock s = refl
+done-answer unlock s = refl
+done-answer (setVisible v) s = refl
+done-answer (sample reading) s = refl
+done-answer (save image used) s = refl
+done-answer (powerOn image used) s = refl
+
+-- the answer is the number of the first check, in that order, that fails
+pub entry-answer : (x : Step) (s : Store) → onStore x s .seen .answer ≡ firstFailed (storeChecks x s)
+entry-answer x s = go (firstFailed (storeChecks x s)) refl
+  where
+    go : (n : ℕ) → firstFailed (storeChecks x s) ≡ n → onStore x s .seen .answer ≡ firstFailed (storeChecks x s)
+    go zero e = rw (on-done x s e) (done-answer x s ∙ sym e)
+    go (suc n) e = rw (on-refused x s n e) (unchanged-answer x (suc n) ∙ sym e)
+
+-- THEOREM: every input, sound or not, has an answer from 0 to 8.
+pub answer-range : (x : Step) (s : Store) → onStore x s .seen .answer ≤ 8
+answer-range x s = omega (arith, entry-answer x s, first-bound 8 (storeChecks x s) (entry-order x s .1))
+
+-- THEOREM: "A refused call leaves the record, disk, private area, mailbox and image untouched."
+pub refused-untouched : (x : Step) (s : Store) (n : ℕ) → onStore x s .seen .answer ≡ suc n → onStore x s ≡ record { state = s; seen = unchanged x (suc n) }
+refused-untouched x s n e = on-refused x s n (sym (entry-answer x s) ∙ e)
+
+-- ---- the answers of a list
+
+-- a number that every check's number, and 0, has a property has it too
+abbrev EachNumber : (ℕ → Type 0) → List Check → Type 0
+EachNumber P [] = Unit {0}
+EachNumber P (c ∷ cs) = P (c .1) × EachNumber P cs
+
+first-among : (P : ℕ → Type 0) (cs : List Check) → P 0 → EachNumber P cs → P (firstFailed cs)
+first-among P [] z e = z
+first-among P (c ∷ cs) z e = go (c .0) (first-among P cs z (e .1))
+  where
+    go : (b : Bool) → P (firstFailed cs) → P (if b then firstFailed cs else c .1)
+    go true rest = rest
+    go false rest = e .0
+
+-- what a refusal for a length can be, once the areas are right: a mailbox's length, or a used length
+abbrev pub LengthWrong : Step → Type 0
+LengthWrong (take p m) = length m ≡ mailboxSize → ⊥
+LengthWrong (serve x) = ⊥
+LengthWrong (give p m) = length m ≡ mailboxSize → ⊥
+LengthWrong (work n) = ⊥
+LengthWrong lock = ⊥
+LengthWrong unlock = ⊥
+LengthWrong (setVisible v) = ⊥
+LengthWrong (sample reading) = ⊥
+LengthWrong (save image used) = length image < used
+LengthWrong (powerOn image used) = length image < used
+
+-- the machine's checks give no 4 ..
+no-four : (x : Step) (M : Machine) → EachNumber (λ n. n ≡ 4 → ⊥) (checks x M)
+no-four (take p m) M = omega arith
+no-four (serve x) M = omega arith
+no-four (give p m) M = omega arith
+no-four (work n) M = tt
+no-four lock M = tt
+no-four unlock M = tt
+no-four (setVisible v) M = omega arith
+no-four (sample reading) M = tt
+no-four (save image used) M = omega arith
+no-four (powerOn image used) M = omega arith
+
+-- .. and a 2 for a mailbox's length or a used length alone
+behind-length : (b : Bool) (cs : List Check) → EachNumber (λ n. n ≡ 2 → ⊥) cs → (if b then firstFailed cs else 2) ≡ 2 → b ≡ false
+behind-length true cs e h = absurd (first-among (λ n. n ≡ 2 → ⊥) cs (λ z. omega arith) e h)
+behind-length false cs e h = refl
+
+never-two : (cs : List Check) → EachNumber (λ n. n ≡ 2 → ⊥) cs → firstFailed cs ≡ 2 → ⊥
+never-two cs e h = first-among (λ n. n ≡ 2 → ⊥) cs (λ z. omega arith) e h
+
+disk-whole : (M : Machine) → MachineValid M → wholeSectors (length (M .disk)) ≡ true
+disk-whole M ok =
+    let sizes = ok .deviceValid .sizes in
+    rw (ok .diskValid .size, eq-eqb ((sectorSize * M .device .native) % sectorSize) 0 (omega arith))
+    (rw (multiple (M .device .native)) (between-within 1 (M .device .native) nativeLimit (omega (arith, sizes .0, sizes .1)) (sizes .2)))
+  where
+    multiple : (n : ℕ) → sectorSize * n / sectorSize ≡ n
+    multiple n = omega arith
+
+only-length : (x : Step) (M : Machine) → MachineValid M → firstFailed (checks x M) ≡ 2 → LengthWrong x
+only-length (take p m) M ok e =
+    eqb-false (length m) mailboxSize (behind-length (eqb (length m) mailboxSize) (drop 1 (checks (take p m) M)) (omega arith) e)
+only-length (serve x) M ok e = never-two (checks (serve x) M) (omega arith) e
+only-length (give p m) M ok e =
+    eqb-false (length m) mailboxSize (behind-length (eqb (length m) mailboxSize) (drop 1 (checks (give p m) M)) (omega arith) e)
+only-length (work n) M ok e = absurd (omega arith)
+only-length lock M ok e = absurd (omega arith)
+only-length unlock M ok e = absurd (omega arith)
+only-length (setVisible v) M ok e = never-two (checks (setVisible v) M) (omega arith) e
+only-length (sample reading) M ok e = absurd (omega arith)
+only-length (save image used) M ok e =
+    leb-false used (length image) (behind-length (leb used (length image)) (drop 1 (checks (save image used) M)) (omega arith) e)
+only-length (powerOn image used) M ok e =
+    leb-false used (length image) (behind-length (leb used (length image)) (drop 2 (checks (powerOn image used) M)) (omega arith) (rw (disk-whole M ok) at e))
+
+-- the answers of a step after a power-on
+pub record AnswersRight (x : Step) (s : Store) : Type 0 where
+  pub neverFour : onStore x s .seen .answer ≡ 4 → ⊥
+  pub twoForLength : onStore x s .seen .answer ≡ 2 → LengthWrong x
+
+pub step-answers : (x : Step) (s : Store) → Fed x → StoreValid s → AnswersRight x s
+step-answers x s fed v =
+    let same : onStore x s .seen .answer ≡ firstFailed (checks x (machineOf s)) =
+    ap (λ (o : Seen). o .answer) (follows x s fed v .seenSame) ∙ answer-is x (machineOf s) in
+    record {
+      neverFour = λ e. first-among (λ n. n ≡ 4 → ⊥) (checks x (machineOf s)) (λ z. omega arith) (no-four x (machineOf s)) (sym same ∙ e);
+      twoForLength = λ e. only-length x (machineOf s) (machine-valid s v) (sym same ∙ e);
+    }
+
+-- THEOREM: "after a power-on that answers 0" no step of a list answers 4, and 2 only for a mailbox's length or a used length.
+abbrev pub ListAnswersRight : List Step → Store → Type 0
+ListAnswersRight [] s = Unit {0}
+ListAnswersRight (x ∷ xs) s = AnswersRight x s × ListAnswersRight xs (onStore x s .state)
+
+pub list-answers : (xs : List Step) (s : Store) → Each Fed xs → StoreValid s → ListAnswersRight xs s
+list-answers [] s fed v = tt
+list-answers (x ∷ xs) s fed v =
+    (step-answers x s (fed .0) v, list-answers xs (onStore x s .state) (fed .1) (follows x s (fed .0) v .valid))
+
+-- ---- power-on
+
+-- THEOREM: a power-on answers 0 exactly where the paper names no refusal: the record and the private area have their sizes, the disk is
+-- 1 to 65,536 whole sectors, the used length lies in the buffer, the image is readable, and its newest entry is this disk's.
+pub power-on-exactly : (r a disk image : List ℕ) (used : ℕ)
+    → (powerOnBytes r a disk image used .answer ≡ 0)
+    ↔ ((length r ≡ recordSize) × (length a ≡ privateSize) × (wholeSectors (length disk) ≡ true) × (used ≤ length image) × (readable image used ≡ true) × (sameDisk (length disk / sectorSize) image used ≡ true))
+power-on-exactly r a disk image used = (
+  λ e.
+      let pass = all-pass 8 (powerOnChecks r a disk image used) (omega arith) (sym (power-on-answer r a disk image used) ∙ e) in (
+        eqb-true (length r) recordSize (pass .0),
+        eqb-true (length a) privateSize (pass .1 .0),
+        pass .1 .1 .0,
+        leb-true used (length image) (pass .1 .1 .1 .0),
+        pass .1 .1 .1 .1 .0,
+        pass .1 .1 .1 .1 .1 .0,
+      ),
+  λ k.
+      power-on-answer r a disk image used
+      ∙ pass-all (powerOnChecks r a disk image used)
+      (eq-eqb (length r) recordSize (k .0), (eq-eqb (length a) privateSize (k .1), (k .2, (le-leb used (length image) (k .3), (k .4, (k .5, tt)))))),
+)
+
+-- THEOREM: it does so for every disk of 1 to 65,536 whole sectors with used length 0 ..
+pub power-on-fresh : (r a disk image : List ℕ) → length r ≡ recordSize → length a ≡ privateSize → wholeSectors (length disk) ≡ true
+    → powerOnBytes r a disk image 0 .answer ≡ 0
+power-on-fresh r a disk image size private whole =
+    power-on-answer r a disk image 0
+    ∙ rw (eq-eqb (length r) recordSize size, eq-eqb (length a) privateSize private) (power-on-empty disk image 0 whole)
+
+-- .. and after every save that answered 0, from that image on that disk.
+pub power-on-saved : (s : Store) (image : List ℕ) (used : ℕ) (r a : List ℕ) → StoreValid s → onStore (save image used) s .seen .answer ≡ 0
+    → length r ≡ recordSize → length a ≡ privateSize
+    → powerOnBytes r a (s .disk) (onStore (save image used) s .seen .image) (onStore (save image used) s .seen .used) .answer ≡ 0
+power-on-saved s image used r a v e size private =
+    let passed = sym (entry-answer (save image used) s) ∙ e in
+    let d = decode (s .recordArea) .device in
+    let checked = pass-all (imageChecks (d .native) image used) (all-pass 8 (storeChecks (save image used) s) (entry-order (save image used) s .1) passed .1) in
+    rw (on-done (save image used) s passed)
+    (power-on-answer r a (s .disk) (savedImage d image used) (used + entrySize)
+    ∙ rw (eq-eqb (length r) recordSize size, eq-eqb (length a) privateSize private)
+    (power-on-after-save d image used (contents-valid s v .device) checked (s .disk) (v .disk .size)))
+
+-- "it leaves the disk"
+pub power-on-disk : (image : List ℕ) (used : ℕ) (s : Store) → onStore (powerOn image used) s .state .disk ≡ s .disk
+unfolding onStore
+power-on-disk image used s = refl
+
+-- ---- requests
+
+-- the bytes after a list of steps
+abbrev pub storeAfter : List Step → Store → Store
+storeAfter [] s = s
+storeAfter (x ∷ xs) s = storeAfter xs (onStore x s .state)
+
+-- .. say the machine after it
+pub after-same : (xs : List Step) (s : Store) → Each Fed xs → StoreValid s → machineOf (storeAfter xs s) ≡ after xs (machineOf s)
+after-same [] s fed v = refl
+after-same (x ∷ xs) s fed v =
+    let f = follows x s (fed .0) v in
+    after-same xs (onStore x s .state) (fed .1) (f .valid) ∙ ap (after xs) (f .same)
+
+-- THEOREM: a request in a slot is the mailbox at its taking until it is served or power comes on.
+pub request-kept : (p : ℕ) (m : List ℕ) (xs : List Step) (s : Store) → Each Fed xs → StoreValid s → machineOf s .ports p ≡ request m
+    → Each (LeavesRequest p) xs → machineOf (storeAfter xs s) .ports p ≡ request m
+request-kept p m xs s fed v held leaves = ap (λ (M : Machine). M .ports p) (after-same xs s fed v) ∙ requests-stay p m xs (machineOf s) held leaves

@@ -1,0 +1,99 @@
+-- Condition 3 holds: a single theorem over every list of steps.
+use mathlib.Core.Path.{_≡_, refl, sym, ap, ap₂, _∙_}
+use Prim.Native.Nat.{ℕ, zero, suc}
+use native.Mathlib.Omega.{arith}
+use mathlib.Core.List.{List, [], _∷_, map}
+use lib.ListN.{length, drop}
+use Rattle.wire.specs.Choice.{firstFailed, ifPassed}
+use Rattle.wire.specs.Parts.{zeros}
+use Rattle.wire.specs.Bytes.{Bytes}
+use Rattle.wire.proofs.ChoiceLaws.{Numbered, all-pass, pass-all}
+use Rattle.model.specs.Image.{powerOnChecks as diskChecks}
+use Rattle.model.specs.Machine.{Machine}
+use Rattle.model.specs.Step.{Step, Outcome, Seen, poweredOn, firstAnswer, step, trace}
+use Rattle.model.specs.Valid.{Fed, MachineValid}
+use Rattle.model.proofs.TakenLaws.{Each}
+use Rattle.model.proofs.ValidStep.{power-on-machine}
+use Rattle.model.proofs.HiddenLaws.{step-hidden, hidden}
+use Rattle.store.specs.Areas.{privateSize}
+use Rattle.store.specs.Record.{encode}
+use Rattle.store.specs.Store.{Store, machineOf}
+use Rattle.store.specs.Entries.{TakeAfter, powerOnChecks, poweredContents, powerOnDone, powerOnBytes}
+use Rattle.store.specs.OnStore.{store, onStore}
+use Rattle.store.specs.Condition3.{asMachine, keptHidden, HiddenKept, started, Condition3}
+use Rattle.store.proofs.FollowLaws.{StoreValid, machine-valid}
+use Rattle.store.proofs.StepFollows.{Follows, follows, powered-store}
+
+-- ---- a list of steps from valid bytes
+
+outcome-same : (x : Step) (s : Store) → Follows x s → asMachine (onStore x s) ≡ step x (machineOf s)
+outcome-same x s f = λ i. record { state = f .same i; seen = f .seenSame i }
+
+pub list-follows : (xs : List Step) (s : Store) → Each Fed xs → StoreValid s → map asMachine (trace onStore xs s) ≡ trace step xs (machineOf s)
+list-follows [] s fed v = refl
+list-follows (x ∷ xs) s fed v =
+    let f = follows x s (fed .0) v in
+    ap₂ (λ (o : Outcome Machine) (l : List (Outcome Machine)). o ∷ l) (outcome-same x s f)
+    (list-follows xs (onStore x s .state) (fed .1) (f .valid) ∙ ap (trace step xs) (f .same))
+
+pub list-hidden : (xs : List Step) (s : Store) → Each Fed xs → StoreValid s → HiddenKept xs s
+unfolding machineOf
+list-hidden [] s fed v = tt
+list-hidden (x ∷ xs) s fed v =
+    let f = follows x s (fed .0) v in (
+      ap (λ (N : Machine). hidden (machineOf s .device .visible) (N .disk)) (f .same) ∙ step-hidden x (machineOf s) (machine-valid s v),
+      list-hidden xs (onStore x s .state) (fed .1) (f .valid),
+    )
+
+-- ---- the first power-on
+
+passed : (n : ℕ) (x y : TakeAfter) → x .answer ≡ 0 → y .answer ≡ n → ifPassed n x y .answer ≡ n
+passed zero x y p q = p
+passed (suc n) x y p q = q
+
+module _ (r a disk image : List ℕ) (used : ℕ) where
+  numbered : Numbered 8 (powerOnChecks r a disk image used)
+  numbered = omega arith
+
+  pub power-on-answer : powerOnBytes r a disk image used .answer ≡ firstFailed (powerOnChecks r a disk image used)
+  unfolding powerOnBytes
+  power-on-answer =
+      passed (firstFailed (powerOnChecks r a disk image used))
+      (powerOnDone disk image used)
+      (record { answer = firstFailed (powerOnChecks r a disk image used); recordArea = r; privateArea = a }) refl refl
+
+  module _ (answers : powerOnBytes r a disk image used .answer ≡ 0) where
+    on-passed : firstFailed (powerOnChecks r a disk image used) ≡ 0
+    on-passed = sym power-on-answer ∙ answers
+
+    -- the machine's power-on has fewer checks: those of disk and image
+    disk-passed : firstFailed (diskChecks disk image used) ≡ 0
+    disk-passed = pass-all (diskChecks disk image used) (all-pass 8 (powerOnChecks r a disk image used) numbered on-passed .1 .1)
+
+    started-is : started r a disk image used ≡ store (encode (poweredContents disk image used)) (zeros privateSize) disk
+    unfolding powerOnBytes
+    started-is = rw on-passed
+
+    module _ (diskBytes : Bytes disk) (imageBytes : Bytes image) where
+      powered : StoreValid (store (encode (poweredContents disk image used)) (zeros privateSize) disk)
+          × (machineOf (store (encode (poweredContents disk image used)) (zeros privateSize) disk) ≡ poweredOn disk image used)
+      powered = powered-store disk image used (power-on-machine disk image used diskBytes imageBytes disk-passed)
+
+      -- the bytes are valid after the power-on, and say the machine
+      pub started-valid : StoreValid (started r a disk image used)
+      started-valid = rw started-is (powered .0)
+
+      started-machine : machineOf (started r a disk image used) ≡ poweredOn disk image used
+      started-machine = ap machineOf started-is ∙ powered .1
+
+      -- CONDITION 3. "Start with a power-on that answers 0 .. on any disk and image. Consider every list of our steps after it".
+      -- Nothing is asked of the old record and private area; of what is fed, that bytes are bytes.
+      pub condition-3 : (xs : List Step) → Each Fed xs → Condition3 r a disk image used xs
+      unfolding firstAnswer
+      condition-3 xs fed =
+          record {
+            sameAnswer = disk-passed;
+            afterPowerOn = started-machine;
+            afterEachStep = list-follows xs (started r a disk image used) fed started-valid ∙ ap (trace step xs) started-machine;
+            hidden = list-hidden xs (started r a disk image used) fed started-valid;
+          }

@@ -1,0 +1,11 @@
+-- Laws of the byte form, and the theorems, in reading order.
+pub mod RecordLaws
+pub mod SoundLaws
+pub mod InPlaceLaws
+pub mod EntryLaws
+pub mod FollowLaws
+pub mod StepFollows
+pub mod Condition3Holds
+pub mod AnswerLaws
+pub mod Lossless
+pub mod UntouchedLaws

@@ -1,0 +1,113 @@
+-- What the machine does not hold: the bytes that a step that is done leaves as they were.
+use mathlib.Core.Path.{_≡_, refl, sym, ap, _∙_}
+use mathlib.Core.Logic.{_⊎_, inl, inr}
+use Prim.Native.Nat.{ℕ, zero, suc, _+_, _*_, _≤_, _<_}
+use native.Mathlib.Omega.{arith}
+use mathlib.Core.List.{List, [], _∷_}
+use lib.ListN.{length, getD}
+use lib.Seq.{sets}
+use Rattle.wire.specs.Choice.{firstFailed}
+use Rattle.wire.specs.Parts.{part, zeros}
+use Rattle.wire.proofs.ChoiceLaws.{all-pass, pass-all}
+use Rattle.wire.proofs.NumbersLaws.{getD-sets-before, getD-sets-after}
+use Rattle.model.specs.Sizes.{sectorSize, portCount, mailboxSize, entrySize}
+use Rattle.model.specs.Registers.{replyBytes}
+use Rattle.model.specs.Fill.{Volume}
+use Rattle.model.specs.Decide.{Effect, nothing, sendStatus, sendTemperatures, readLba, writeLba, beginFill, Decision, decide}
+use Rattle.model.specs.Perform.{sent}
+use Rattle.model.specs.Step.{Step, Serving, take, serve, give, work, lock, unlock, setVisible, sample, save, powerOn, Outcome}
+use Rattle.store.specs.Areas.{slotSize, slotPlace, fillPlace, privateSize}
+use Rattle.store.specs.Record.{decode}
+use Rattle.store.specs.Store.{Store, slotBytes}
+use Rattle.store.specs.Entries.{withFillSector}
+use Rattle.store.specs.OnStore.{store, onStore}
+use Rattle.store.proofs.EntryLaws.{storeChecks, doneStore, on-done}
+
+-- i is no byte of slot p
+abbrev pub OutsideSlot : ℕ → ℕ → Type 0
+OutsideSlot p i = (i < slotPlace p) ⊎ (slotPlace p + slotSize ≤ i)
+
+slot-stored : (a x : List ℕ) (p i : ℕ) → length x ≡ slotSize → OutsideSlot p i → getD (sets a (slotPlace p) x) i 0 ≡ getD a i 0
+slot-stored a x p i e (inl h) = getD-sets-before x a (slotPlace p) i h
+slot-stored a x p i e (inr h) = getD-sets-after x a (slotPlace p) i (omega arith)
+
+-- take: the other slots and the fill sector stay
+pub take-leaves : (p : ℕ) (m : List ℕ) (s : Store) (i : ℕ) → firstFailed (storeChecks (take p m) s) ≡ 0 → length m ≡ mailboxSize → OutsideSlot p i
+    → getD (onStore (take p m) s .state .privateArea) i 0 ≡ getD (s .privateArea) i 0
+take-leaves p m s i e size out = rw (on-done (take p m) s e) (slot-stored (s .privateArea) m p i size out)
+
+-- give, work, the owner steps and save: the whole private area stays
+pub record PrivateKept (x : Step) (s : Store) : Type 0 where
+  pub kept : onStore x s .state .privateArea ≡ s .privateArea
+
+pub give-leaves : (p : ℕ) (m : List ℕ) (s : Store) → PrivateKept (give p m) s
+unfolding onStore
+give-leaves p m s = record { kept = refl }
+
+pub work-leaves : (n : ℕ) (s : Store) → PrivateKept (work n) s
+unfolding onStore
+work-leaves n s = record { kept = refl }
+
+pub owner-leaves : (v reading : ℕ) (s : Store) → PrivateKept lock s × PrivateKept unlock s × PrivateKept (setVisible v) s × PrivateKept (sample reading) s
+unfolding onStore
+owner-leaves v reading s = (record { kept = refl }, record { kept = refl }, record { kept = refl }, record { kept = refl })
+
+-- save: record, private area and disk stay
+pub save-leaves : (image : List ℕ) (used : ℕ) (s : Store) → onStore (save image used) s .state ≡ s
+unfolding onStore
+save-leaves image used s = refl
+
+-- the owner steps leave the disk
+pub owner-disk : (v reading : ℕ) (s : Store)
+    → (onStore lock s .state .disk ≡ s .disk) × (onStore unlock s .state .disk ≡ s .disk) × (onStore (setVisible v) s .state .disk ≡ s .disk) × (onStore (sample reading) s .state .disk ≡ s .disk)
+unfolding onStore
+owner-disk v reading s = (refl, refl, refl, refl)
+
+-- "private area all zeros"
+pub power-on-zeroes : (image : List ℕ) (used : ℕ) (s : Store) → firstFailed (storeChecks (powerOn image used) s) ≡ 0
+    → onStore (powerOn image used) s .state .privateArea ≡ zeros 2624
+power-on-zeroes image used s e = rw (on-done (powerOn image used) s e)
+
+-- serve: the other slots stay, and the fill sector unless a fill begins
+abbrev pub BeginsFill : Effect → Type 0
+BeginsFill nothing = ⊥
+BeginsFill sendStatus = ⊥
+BeginsFill sendTemperatures = ⊥
+BeginsFill (readLba lba) = ⊥
+BeginsFill (writeLba lba sector) = ⊥
+BeginsFill (beginFill first end sector) = Unit {0}
+
+fill-left : (e : Effect) (b : List ℕ) → (BeginsFill e → ⊥) → withFillSector e b ≡ b
+fill-left nothing b ne = refl
+fill-left sendStatus b ne = refl
+fill-left sendTemperatures b ne = refl
+fill-left (readLba lba) b ne = refl
+fill-left (writeLba lba sector) b ne = refl
+fill-left (beginFill first end sector) b ne = absurd (ne tt)
+
+fill-before : (e : Effect) (b : List ℕ) (i : ℕ) → i < fillPlace → getD (withFillSector e b) i 0 ≡ getD b i 0
+fill-before nothing b i h = refl
+fill-before sendStatus b i h = refl
+fill-before sendTemperatures b i h = refl
+fill-before (readLba lba) b i h = refl
+fill-before (writeLba lba sector) b i h = refl
+fill-before (beginFill first end sector) b i h = getD-sets-before sector b fillPlace i h
+
+module _ (x : Serving) (s : Store) (passed : firstFailed (storeChecks (serve x) s) ≡ 0) where
+  abbrev decided : Decision
+  decided = decide (x .port) (slotBytes (x .port) (s .privateArea)) (decode (s .recordArea) .device)
+
+  abbrev answer : List ℕ
+  answer = replyBytes (decided .registers) (sent (decided .effect) (record { device = decided .device; disk = s .disk }))
+
+  pub serve-leaves-slots : (i : ℕ) → length answer ≡ slotSize → i < fillPlace → OutsideSlot (x .port) i
+      → getD (onStore (serve x) s .state .privateArea) i 0 ≡ getD (s .privateArea) i 0
+  serve-leaves-slots i size h out =
+      rw (on-done (serve x) s passed)
+      (fill-before (decided .effect) (sets (s .privateArea) (slotPlace (x .port)) answer) i h ∙ slot-stored (s .privateArea) answer (x .port) i size out)
+
+  pub serve-leaves-sector : (i : ℕ) → length answer ≡ slotSize → (BeginsFill (decided .effect) → ⊥) → OutsideSlot (x .port) i
+      → getD (onStore (serve x) s .state .privateArea) i 0 ≡ getD (s .privateArea) i 0
+  serve-leaves-sector i size none out =
+      rw (on-done (serve x) s passed, fill-left (decided .effect) (sets (s .privateArea) (slotPlace (x .port)) answer) none)
+      (slot-stored (s .privateArea) answer (x .port) i size out)

@@ -1,0 +1,240 @@
+-- The ten entries: what each answers, and every byte of the buffers that it is lent afterwards.
+-- An entry whose checks fail gives the number of the first and leaves all of them as they were.
+use mathlib.Core.Bool.{Bool, true, false}
+use Prim.Native.Nat.{ℕ, _+_, _*_, _/_}
+use mathlib.Core.List.{List, [], _∷_, _++_}
+use lib.ListN.{length, set, replicate}
+use lib.Seq.{sets}
+use lib.Dec.{eqb, ltb}
+use Rattle.wire.specs.Choice.{between, Check, firstFailed, ifPassed}
+use Rattle.wire.specs.Parts.{zeros}
+use Rattle.model.specs.Sizes.{sectorSize, portCount, mailboxSize, entrySize, done, badPort, badLength, badStage, badRecord, badValue}
+use Rattle.model.specs.Device.{Device}
+use Rattle.model.specs.Registers.{replyBytes}
+use Rattle.model.specs.Fill.{Volume, workCount, work}
+use Rattle.model.specs.Decide.{Effect, nothing, sendStatus, sendTemperatures, readLba, writeLba, beginFill, Decision, decide}
+use Rattle.model.specs.Perform.{written, sent}
+use Rattle.model.specs.Owner.{setLock, setVisible, sample}
+use Rattle.model.specs.Image.{savedImage, restored, powerOn}
+use Rattle.model.specs.Image.{saveChecks as imageChecks, powerOnChecks as diskChecks}
+use Rattle.store.specs.Areas.{recordSize, slotPlace, fillPlace, privateSize}
+use Rattle.store.specs.Record.{Stage, empty, held, answered, Contents, encode, decode}
+use Rattle.store.specs.Sound.{sound}
+use Rattle.store.specs.Store.{slotBytes, fillSectorOf, stageFor}
+
+-- ---- checks that entries share
+
+-- "4 record: device record unsound", which a record of another size is too
+abbrev pub soundRecord : List ℕ → Check
+soundRecord r = (sound r, badRecord)
+
+-- "a lent buffer isn't of its size"
+abbrev pub ofSize : ℕ → List ℕ → Check
+ofSize n buffer = (eqb (length buffer) n, badLength)
+
+-- "the disk isn't N sectors"
+abbrev pub wholeDisk : List ℕ → List ℕ → Check
+wholeDisk r disk = ofSize (sectorSize * decode r .device .native) disk
+
+abbrev pub goodPort : ℕ → Check
+goodPort p = (ltb p portCount, badPort)
+
+abbrev pub isEmpty : Stage → Bool
+isEmpty empty = true
+isEmpty held = false
+isEmpty answered = false
+
+abbrev pub isHeld : Stage → Bool
+isHeld empty = false
+isHeld held = true
+isHeld answered = false
+
+abbrev pub isAnswered : Stage → Bool
+isAnswered empty = false
+isAnswered held = false
+isAnswered answered = true
+
+-- "slot not in the stage the step needs"
+abbrev pub inStage : (Stage → Bool) → List ℕ → ℕ → Check
+inStage stage r p = (stage (stageFor p (decode r)), badStage)
+
+-- the record with another stage of slot p, and with another device
+abbrev pub withStage : ℕ → Stage → Contents → Contents
+withStage p s c = record { device = c .device; stages = set (c .stages) p s }
+
+abbrev pub withDevice : Device → Contents → Contents
+withDevice d c = record { device = d; stages = c .stages }
+
+-- ---- take: record, port, mailbox, private area
+
+pub record TakeAfter : Type 0 where
+  pub answer : ℕ
+  pub recordArea : List ℕ
+  pub privateArea : List ℕ
+
+abbrev pub takeChecks : List ℕ → ℕ → List ℕ → List ℕ → List Check
+takeChecks r p m a =
+    soundRecord r ∷ ofSize mailboxSize m ∷ ofSize privateSize a ∷ goodPort p ∷ inStage isEmpty r p ∷ []
+
+-- "copies the mailbox into the port's slot. Slot goes from empty to held."
+abbrev pub takeDone : List ℕ → ℕ → List ℕ → List ℕ → TakeAfter
+takeDone r p m a =
+    record { answer = done; recordArea = encode (withStage p held (decode r)); privateArea = sets a (slotPlace p) m }
+
+unfoldable pub takeBytes : List ℕ → ℕ → List ℕ → List ℕ → TakeAfter
+takeBytes r p m a =
+    let n = firstFailed (takeChecks r p m a) in
+    ifPassed n (takeDone r p m a) (record { answer = n; recordArea = r; privateArea = a })
+
+-- ---- serve: record, port, private area, disk
+
+pub record ServeAfter : Type 0 where
+  pub answer : ℕ
+  pub recordArea : List ℕ
+  pub privateArea : List ℕ
+  pub disk : List ℕ
+
+abbrev pub serveChecks : List ℕ → ℕ → List ℕ → List ℕ → List Check
+serveChecks r p a disk = soundRecord r ∷ ofSize privateSize a ∷ wholeDisk r disk ∷ goodPort p ∷ inStage isHeld r p ∷ []
+
+-- a fill that begins has its sector in the private area
+abbrev pub withFillSector : Effect → List ℕ → List ℕ
+withFillSector nothing a = a
+withFillSector sendStatus a = a
+withFillSector sendTemperatures a = a
+withFillSector (readLba lba) a = a
+withFillSector (writeLba lba sector) a = a
+withFillSector (beginFill first end sector) a = sets a fillPlace sector
+
+-- "answers the held request from the slot alone and leaves the reply in the slot. Held to answered."
+abbrev pub performed : ℕ → Decision → Contents → List ℕ → List ℕ → ServeAfter
+performed p k c a disk =
+    let decided : Volume = record { device = k .device; disk = disk } in
+    let v = written (k .effect) decided in
+    record {
+      answer = done;
+      recordArea = encode (withStage p answered (withDevice (v .device) c));
+      privateArea = withFillSector (k .effect) (sets a (slotPlace p) (replyBytes (k .registers) (sent (k .effect) decided)));
+      disk = v .disk;
+    }
+
+abbrev pub serveDone : List ℕ → ℕ → List ℕ → List ℕ → ServeAfter
+serveDone r p a disk = let c = decode r in performed p (decide p (slotBytes p a) (c .device)) c a disk
+
+unfoldable pub serveBytes : List ℕ → ℕ → List ℕ → List ℕ → ServeAfter
+serveBytes r p a disk =
+    let n = firstFailed (serveChecks r p a disk) in
+    ifPassed n (serveDone r p a disk) (record { answer = n; recordArea = r; privateArea = a; disk = disk })
+
+-- ---- give: record, port, mailbox, private area
+
+pub record GiveAfter : Type 0 where
+  pub answer : ℕ
+  pub recordArea : List ℕ
+  pub mailbox : List ℕ
+
+abbrev pub giveChecks : List ℕ → ℕ → List ℕ → List ℕ → List Check
+giveChecks r p m a =
+    soundRecord r ∷ ofSize mailboxSize m ∷ ofSize privateSize a ∷ goodPort p ∷ inStage isAnswered r p ∷ []
+
+-- "writes all 528 reply bytes to the mailbox. Answered to empty; the slot's bytes stay."
+abbrev pub giveDone : List ℕ → ℕ → List ℕ → GiveAfter
+giveDone r p a = record { answer = done; recordArea = encode (withStage p empty (decode r)); mailbox = slotBytes p a }
+
+unfoldable pub giveBytes : List ℕ → ℕ → List ℕ → List ℕ → GiveAfter
+giveBytes r p m a =
+    let n = firstFailed (giveChecks r p m a) in
+    ifPassed n (giveDone r p a) (record { answer = n; recordArea = r; mailbox = m })
+
+-- ---- work: record, private area, disk, n
+
+pub record WorkAfter : Type 0 where
+  pub answer : ℕ
+  pub count : ℕ
+  pub recordArea : List ℕ
+  pub disk : List ℕ
+
+abbrev pub workChecks : List ℕ → List ℕ → List ℕ → List Check
+workChecks r a disk = soundRecord r ∷ ofSize privateSize a ∷ wholeDisk r disk ∷ []
+
+-- "writes the next sectors of a running fill, as many as n and what is left allow, and reports how many it wrote"
+abbrev pub workDone : List ℕ → List ℕ → List ℕ → ℕ → WorkAfter
+workDone r a disk n =
+    let c = decode r in
+    let v = work n (fillSectorOf a) (record { device = c .device; disk = disk }) in
+    record {
+      answer = done;
+      count = workCount n (c .device .command .fill);
+      recordArea = encode (withDevice (v .device) c);
+      disk = v .disk;
+    }
+
+unfoldable pub workBytes : List ℕ → List ℕ → List ℕ → ℕ → WorkAfter
+workBytes r a disk n =
+    let refusal = firstFailed (workChecks r a disk) in
+    ifPassed refusal (workDone r a disk n) (record { answer = refusal; count = 0; recordArea = r; disk = disk })
+
+-- ---- lock, unlock, set V, sample: record
+
+pub record OwnerAfter : Type 0 where
+  pub answer : ℕ
+  pub recordArea : List ℕ
+
+-- the device is changed by f
+abbrev pub ownerDone : (Device → Device) → List ℕ → OwnerAfter
+ownerDone f r = let c = decode r in record { answer = done; recordArea = encode (withDevice (f (c .device)) c) }
+
+abbrev pub ownerBytes : List Check → (Device → Device) → List ℕ → OwnerAfter
+ownerBytes cs f r = let n = firstFailed cs in ifPassed n (ownerDone f r) (record { answer = n; recordArea = r })
+
+unfoldable pub lockBytes : List ℕ → OwnerAfter
+lockBytes r = ownerBytes (soundRecord r ∷ []) (setLock true) r
+
+unfoldable pub unlockBytes : List ℕ → OwnerAfter
+unlockBytes r = ownerBytes (soundRecord r ∷ []) (setLock false) r
+
+-- "V asked is 0 or above N"
+unfoldable pub setVisibleBytes : List ℕ → ℕ → OwnerAfter
+setVisibleBytes r v = ownerBytes (soundRecord r ∷ (between 1 v (decode r .device .native), badValue) ∷ []) (setVisible v) r
+
+unfoldable pub sampleBytes : List ℕ → ℕ → OwnerAfter
+sampleBytes r reading = ownerBytes (soundRecord r ∷ []) (sample reading) r
+
+-- ---- save: record, image, used length
+
+pub record SaveAfter : Type 0 where
+  pub answer : ℕ
+  pub image : List ℕ
+  pub used : ℕ
+
+abbrev pub saveChecks : List ℕ → List ℕ → ℕ → List Check
+saveChecks r image used = soundRecord r ∷ imageChecks (decode r .device .native) image used
+
+abbrev pub saveDone : List ℕ → List ℕ → ℕ → SaveAfter
+saveDone r image used = record { answer = done; image = savedImage (decode r .device) image used; used = used + entrySize }
+
+unfoldable pub saveBytes : List ℕ → List ℕ → ℕ → SaveAfter
+saveBytes r image used =
+    let n = firstFailed (saveChecks r image used) in
+    ifPassed n (saveDone r image used) (record { answer = n; image = image; used = used })
+
+-- ---- power-on: record, private area, disk, image, used length
+
+-- "Power-on judges no old record ..; a record run of another size is 2 there"
+abbrev pub powerOnChecks : List ℕ → List ℕ → List ℕ → List ℕ → ℕ → List Check
+powerOnChecks r a disk image used = ofSize recordSize r ∷ ofSize privateSize a ∷ diskChecks disk image used
+
+-- "slots empty"
+abbrev pub poweredContents : List ℕ → List ℕ → ℕ → Contents
+poweredContents disk image used =
+    record { device = powerOn (restored (length disk / sectorSize) image used); stages = replicate portCount empty }
+
+-- "private area all zeros"
+abbrev pub powerOnDone : List ℕ → List ℕ → ℕ → TakeAfter
+powerOnDone disk image used =
+    record { answer = done; recordArea = encode (poweredContents disk image used); privateArea = zeros privateSize }
+
+unfoldable pub powerOnBytes : List ℕ → List ℕ → List ℕ → List ℕ → ℕ → TakeAfter
+powerOnBytes r a disk image used =
+    let n = firstFailed (powerOnChecks r a disk image used) in
+    ifPassed n (powerOnDone disk image used) (record { answer = n; recordArea = r; privateArea = a })

@@ -1,0 +1,9 @@
+-- The byte form of the machine, in reading order.
+pub mod Areas
+pub mod Record
+pub mod Sound
+pub mod InPlace
+pub mod Store
+pub mod Entries
+pub mod OnStore
+pub mod Condition3
