@@ -12,7 +12,7 @@ use Rattle.wire.specs.Numbers.{get}
 use Rattle.wire.specs.Parts.{part}
 use Rattle.wire.specs.Layout.{form, Reads}
 use Rattle.wire.specs.Bytes.{Bytes}
-use Rattle.wire.proofs.ChoiceLaws.{and-left, and-right, and-both, between-true, between-within, bit-small}
+use Rattle.wire.proofs.ChoiceLaws.{and-left, and-right, and-both, and-three, three-and, between-true, between-within, bit-small}
 use Rattle.wire.proofs.NumbersLaws.{get-append-left, get-append-right}
 use Rattle.wire.proofs.PartsLaws.{length-part, part-append-right}
 use Rattle.wire.proofs.LayoutLaws.{length-form, reads-form}
@@ -22,14 +22,6 @@ use Rattle.model.specs.Key.{highestState}
 use Rattle.model.specs.Temperature.{tableFields, tableHeadSize, tableBytes}
 use Rattle.model.specs.Image.{Saved, headFields, headSize, bodyBytes, hasBit, savedIn, inRange, bodyHolds, tag, trailerFields, trailerBytes}
 use Rattle.model.specs.Valid.{StateValid}
-
--- ---- several tests at once
-
-pub and-three : (a b c : Bool) → (a && b && c) ≡ true → (a ≡ true) × (b ≡ true) × (c ≡ true)
-and-three a b c h = let front = and-left (a && b) c h in (and-left a b front, and-right a b front, and-right (a && b) c h)
-
-pub three-and : (a b c : Bool) → a ≡ true → b ≡ true → c ≡ true → (a && b && c) ≡ true
-three-and a b c p q r = and-both (a && b) c (and-both a b p q) r
 
 -- ---- sizes
 
@@ -61,7 +53,7 @@ pub record SavedFits (s : Saved) : Type 0 where
   pub whole : length (s .history) ≡ historySize
   pub readings : Bytes (s .history)
 
-head-reads : (s : Saved) → SavedFits s → Reads (headFields s) (form headSize (headFields s))
+pub head-reads : (s : Saved) → SavedFits s → Reads (headFields s) (form headSize (headFields s))
 head-reads s f =
     reads-form headSize (headFields s) refl
     (f .native, (f .visible, (flag, (f .lifeMaximum, (f .writeCache, (f .reordering, (f .logInterval, (options, tt))))))))
@@ -78,7 +70,7 @@ table-reads interval index f g =
     (omega arith, (omega arith, (f, (omega arith, (omega arith, (omega arith, (omega arith, (omega arith, (g, tt)))))))))
 
 -- a number of the head, read from the body
-get-head : (s : Saved) (k at : ℕ) → at + k ≤ headSize → get k (bodyBytes s) at ≡ get k (form headSize (headFields s)) at
+pub get-head : (s : Saved) (k at : ℕ) → at + k ≤ headSize → get k (bodyBytes s) at ≡ get k (form headSize (headFields s)) at
 unfolding bodyBytes
 get-head s k at h =
     get-append-left k (form headSize (headFields s)) (tableBytes (s .logInterval .state) (s .index) (s .history)) at

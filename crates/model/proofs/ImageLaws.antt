@@ -1,7 +1,7 @@
 -- Laws of the saved image: every entry, the chain of trailers, and the form that an image is read in.
 use mathlib.Core.Path.{_≡_, refl, sym, ap, ap₂, _∙_}
 use mathlib.Core.Bool.{Bool, true, false, _&&_}
-use Prim.Native.Nat.{ℕ, zero, suc, _+_, _-_, _*_, _%_, _^_, _≤_, _<_}
+use Prim.Native.Nat.{ℕ, zero, suc, _+_, _-_, _*_, _/_, _%_, _^_, _≤_, _<_}
 use native.Mathlib.Nat.{add-zero}
 use native.Mathlib.Omega.{arith}
 use mathlib.Core.List.{List, _++_}
@@ -14,14 +14,15 @@ use Rattle.wire.specs.Numbers.{get}
 use Rattle.wire.specs.Parts.{part}
 use Rattle.wire.specs.Layout.{form}
 use Rattle.wire.specs.Bytes.{Bytes, same}
-use Rattle.wire.proofs.ChoiceLaws.{and-left, and-right, and-both}
+use Rattle.wire.proofs.ChoiceLaws.{and-left, and-right, and-both, and-three, three-and}
 use Rattle.wire.proofs.NumbersLaws.{get-append-left}
 use Rattle.wire.proofs.PartsLaws.{length-part, part-part, get-part, part-append-left, part-append-right}
 use Rattle.wire.proofs.LayoutLaws.{length-form, reads-form}
 use Rattle.wire.proofs.BytesLaws.{bytes-part, same-refl, same-true}
 use Rattle.model.specs.Sizes.{bodySize, trailerSize, entrySize, entryLimit}
-use Rattle.model.specs.Image.{Saved, bodyBytes, savedIn, inRange, bodyHolds, tag, trailerPlace, previousPlace, trailerFields, trailerBytes, bodyAt, trailerAt, entryHolds, every, entries, newest, readable, chainHolds}
-use Rattle.model.proofs.EntryLaws.{and-three, three-and, length-body, length-trailer, SavedFits, saved-back, body-holds, read-fits}
+use Rattle.model.specs.Image.{Saved, bodyBytes, savedIn, inRange, bodyHolds, tag, trailerPlace, previousPlace, trailerFields, trailerBytes, bodyAt, trailerAt, entryHolds, every, entries, newest, readable, chainHolds, sameDisk}
+use Rattle.model.proofs.EntryFormat.{get-trailer, trailer-fields}
+use Rattle.model.proofs.EntryLaws.{length-body, length-trailer, SavedFits, saved-back, body-holds, read-fits}
 
 -- ---- every entry, and the chain of trailers
 
@@ -43,14 +44,7 @@ previous-place : (k : ℕ) → 1 ≤ k → previousPlace (suc k) ≡ trailerPlac
 previous-place k h = rw (ne-eqb (suc k) 1 (omega arith)) (omega arith)
 
 trailer-reads : (k : ℕ) → k ≤ entryLimit → get 4 (trailerBytes k) 4 ≡ previousPlace k
-unfolding trailerBytes
-trailer-reads k h =
-    get-append-left 4 (form 12 (trailerFields k)) tag 4 (rw (length-form 12 (trailerFields k)) (omega arith))
-    ∙ reads-form 12 (trailerFields k) refl (omega arith, (below (eqb k 1), (omega arith, tt))) .1 .0
-  where
-    below : (b : Bool) → (if b then 0xFFFFFFFF else trailerPlace (k - 1)) < 256 ^ 4
-    below true = omega arith
-    below false = omega arith
+trailer-reads k h = get-trailer k 4 (omega arith) ∙ trailer-fields k (omega arith) .1 .0
 
 -- what the test of an entry says
 entry-held : (native : ℕ) (image : List ℕ) (k : ℕ) → entryHolds native image k ≡ true
@@ -227,3 +221,19 @@ form-readable image used f =
         ap (λ (n : ℕ). savedIn (bodyAt image n) .native) number
         ∙ ap (λ (s : Saved). s .native) (form-saved (f .native) image (f .number) h (f .each (f .number) h (omega arith)))
         ∙ f .each (f .number) h (omega arith) .sameNative
+
+-- ---- "newest entry's N is not this disk's"
+
+-- the newest entry is the last 560 bytes of the used length, and its N stands first
+pub newest-native : (image : List ℕ) (used : ℕ) → used % 560 ≡ 0 → 560 ≤ used → newest image used .native ≡ get 8 image (used - 560)
+unfolding savedIn
+newest-native image used whole some =
+    get-part 8 image (trailerPlace (entries used) - bodySize) bodySize 0 (omega arith) ∙ ap (get 8 image) (omega arith)
+
+pub other-disk : (native : ℕ) (image : List ℕ) (used : ℕ) → used % 560 ≡ 0 → 560 ≤ used → (get 8 image (used - 560) ≡ native → ⊥) → sameDisk native image used ≡ false
+other-disk native image used whole some ne =
+    rw (ne-eqb used 0 (λ e. omega arith), newest-native image used whole some, ne-eqb (get 8 image (used - 560)) native ne)
+
+pub own-disk : (native : ℕ) (image : List ℕ) (used : ℕ) → used % 560 ≡ 0 → 560 ≤ used → get 8 image (used - 560) ≡ native → sameDisk native image used ≡ true
+own-disk native image used whole some e =
+    rw (ne-eqb used 0 (λ z. omega arith), newest-native image used whole some, eq-eqb (get 8 image (used - 560)) native e)

@@ -13,9 +13,10 @@ use Rattle.model.specs.Fill.{nothingPending, stopFill, interrupt}
 use Rattle.model.specs.Owner.{setLock}
 use Rattle.model.specs.Owner.{setVisible as setVisibleDevice}
 use Rattle.model.specs.Machine.{Machine}
-use Rattle.model.specs.Step.{Step, lock, unlock, setVisible, Outcome, checks, does, seenDone, step}
+use Rattle.model.specs.Step.{Step, lock, unlock, setVisible, Outcome, checks, onDevice, does, seenDone, step}
 use Rattle.model.proofs.StepLaws.{step-done}
 use Rattle.model.proofs.RequestLaws.{interrupt-kept}
+use Rattle.model.proofs.RecordedLaws.{interrupt-recorded}
 
 -- no fill runs, and nothing is pending
 pub record Quiet (d : Device) : Type 0 where
@@ -50,6 +51,45 @@ pub unlock-quiet : (M : Machine) → Quiet (step unlock M .state .device) × (st
 unfolding step setLock
 unlock-quiet M = let q = interrupt-quiet (M .device) in (record { noFill = q .noFill; noTransfer = q .noTransfer }, refl)
 
+-- N, V, flag, settings, temperatures, action, function, ports and disk are as they were
+pub record LockKeeps (M N : Machine) : Type 0 where
+  pub sizes : (N .device .native ≡ M .device .native) × (N .device .visible ≡ M .device .visible)
+  pub initialized : N .device .initialized ≡ M .device .initialized
+  pub settings : N .device .settings ≡ M .device .settings
+  pub thermal : N .device .thermal ≡ M .device .thermal
+  pub words : (N .device .command .action ≡ M .device .command .action) × (N .device .command .function ≡ M .device .command .function)
+  pub ports : N .ports ≡ M .ports
+  pub disk : N .disk ≡ M .disk
+
+lock-kept : (b : Bool) (M : Machine) → LockKeeps M (onDevice (setLock b) M)
+unfolding setLock
+lock-kept b M =
+    let same = interrupt-kept (M .device) in
+    let words = interrupt-recorded (M .device) in
+    record {
+      sizes = (ap (λ (d : Device). d .native) same, ap (λ (d : Device). d .visible) same);
+      initialized = ap (λ (d : Device). d .initialized) same;
+      settings = ap (λ (d : Device). d .settings) same;
+      thermal = ap (λ (d : Device). d .thermal) same;
+      words = (words .isAction, words .isFunction);
+      ports = refl;
+      disk = refl;
+    }
+
+pub lock-keeps : (M : Machine) → LockKeeps M (step lock M .state) × LockKeeps M (step unlock M .state)
+unfolding step
+lock-keeps M = (lock-kept true M, lock-kept false M)
+
+-- the same, but for the flag: it has laws of its own
+pub record VisibleKeeps (M N : Machine) : Type 0 where
+  pub native : N .device .native ≡ M .device .native
+  pub locked : N .device .locked ≡ M .device .locked
+  pub settings : N .device .settings ≡ M .device .settings
+  pub thermal : N .device .thermal ≡ M .device .thermal
+  pub words : (N .device .command .action ≡ M .device .command .action) × (N .device .command .function ≡ M .device .command .function)
+  pub ports : N .ports ≡ M .ports
+  pub disk : N .disk ≡ M .disk
+
 module _ (v : ℕ) (M : Machine) (some : 1 ≤ v) (most : v ≤ M .device .native) where
   visible-set : step (setVisible v) M ≡ record { state = does (setVisible v) M; seen = seenDone (setVisible v) M }
   visible-set = step-done (setVisible v) M (pass-all (checks (setVisible v) M) (between-within 1 v (M .device .native) some most, tt))
@@ -71,3 +111,22 @@ module _ (v : ℕ) (M : Machine) (some : 1 ≤ v) (most : v ≤ M .device .nativ
   pub visible-same : v ≡ M .device .visible → step (setVisible v) M .state .device .initialized ≡ M .device .initialized
   unfolding setVisibleDevice
   visible-same e = rw (visible-set, eq-eqb v (M .device .visible) e) (and-true (M .device .initialized))
+
+  -- a new V leaves N, the lock, settings, temperatures, action, function, ports and disk
+  pub visible-keeps : VisibleKeeps M (step (setVisible v) M .state)
+  unfolding setVisibleDevice
+  visible-keeps =
+      let same = interrupt-kept (M .device) in
+      let words = interrupt-recorded (M .device) in
+      rw visible-set
+      (
+      record {
+        native = ap (λ (d : Device). d .native) same;
+        locked = ap (λ (d : Device). d .locked) same;
+        settings = ap (λ (d : Device). d .settings) same;
+        thermal = ap (λ (d : Device). d .thermal) same;
+        words = (words .isAction, words .isFunction);
+        ports = refl;
+        disk = refl;
+      }
+      )

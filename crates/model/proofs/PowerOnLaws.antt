@@ -5,7 +5,7 @@ use mathlib.Core.Logic.{inl}
 use Prim.Native.Nat.{ℕ, _≤_, _<_}
 use native.Mathlib.Omega.{arith}
 use mathlib.Core.List.{List}
-use lib.ListN.{length, length-replicate}
+use lib.ListN.{length, replicate, length-replicate}
 use lib.Dec.{eqb}
 use borrow.Author.Tests.{eq-eqb, ne-eqb}
 use Rattle.wire.specs.Choice.{if_then_else_}
@@ -16,7 +16,7 @@ use Rattle.model.specs.Device.{idle, Feature, Device}
 use Rattle.model.specs.Key.{highestState}
 use Rattle.model.specs.Temperature.{emptyHistory, emptyIndex}
 use Rattle.model.specs.Fill.{nothingPending}
-use Rattle.model.specs.Image.{Saved, savedIn, inRange, bodyAt, entries, newest, readable, blank, kept, powerOnThermal, powerOn}
+use Rattle.model.specs.Image.{Saved, savedIn, inRange, bodyAt, entries, newest, readable, blank, kept, powerOnThermal, powerOn, restored}
 use Rattle.model.specs.Valid.{StateValid, ThermalValid, Valid}
 use Rattle.model.proofs.EntryLaws.{SavedFits, Ranged, range-parts, parts-range, range-fits}
 use Rattle.model.proofs.ImageLaws.{form-saved, readable-form}
@@ -172,3 +172,34 @@ kept-rules s =
     chosen : (b : Bool) → eqb (kept (s .logInterval) .state) (s .logInterval .state) ≡ b
         → (powerOnThermal s .history ≡ (if b then s .history else emptyHistory)) × (powerOnThermal s .index ≡ (if b then s .index else emptyIndex))
     chosen b e = (rw e, rw e)
+
+-- ---- "Power-on from length 0 gives V = N, no flag, missing temperatures, defaults, empty history"
+
+-- a default: state 1, not kept over power
+abbrev pub Default : Feature → Type 0
+Default f = (f .state ≡ 1) × (f .persistent ≡ false)
+
+pub record Fresh (native : ℕ) (d : Device) : Type 0 where
+  pub sizes : (d .native ≡ native) × (d .visible ≡ native)
+  pub flag : d .initialized ≡ false
+  pub temperatures : (d .thermal .now ≡ 0x80) × (d .thermal .cycleMaximum ≡ 0x80) × (d .thermal .lifeMaximum ≡ 0x80)
+  pub timers : (d .settings .readTimer ≡ 0) × (d .settings .writeTimer ≡ 0)
+  pub features : Default (d .settings .writeCache) × Default (d .settings .reordering) × Default (d .settings .logInterval)
+  -- "Empty history is all 80h, index 477, minutes 0"
+  pub history : d .thermal .history ≡ replicate 478 0x80
+  pub index : d .thermal .index ≡ 477
+  pub minutes : d .thermal .minutes ≡ 0
+
+pub fresh-on : (native : ℕ) (image : List ℕ) → Fresh native (powerOn (restored native image 0))
+unfolding powerOn restored
+fresh-on native image =
+    record {
+      sizes = (refl, refl);
+      flag = refl;
+      temperatures = (refl, refl, refl);
+      timers = (refl, refl);
+      features = ((refl, refl), (refl, refl), (refl, refl));
+      history = refl;
+      index = refl;
+      minutes = refl;
+    }

@@ -1,11 +1,12 @@
 -- Laws of the registers: which bytes make which request, and which bytes are ignored.
 use mathlib.Core.Path.{_≡_, refl, sym, ap, _∙_}
-use mathlib.Core.Bool.{Bool, true, false, _&&_}
+use mathlib.Core.Bool.{Bool, true, false, _&&_, and-false}
 use Prim.Native.Nat.{ℕ, zero, suc, _+_, _*_, _^_, _<_}
 use native.Mathlib.Omega.{arith}
 use mathlib.Core.List.{List, [], _∷_}
 use lib.ListN.{getD}
 use lib.Dec.{eqb}
+use borrow.Author.Tests.{ne-eqb}
 use Rattle.wire.specs.Choice.{if_then_else_}
 use Rattle.wire.specs.Numbers.{get}
 use Rattle.wire.proofs.NumbersLaws.{get-agree}
@@ -96,4 +97,71 @@ ignored m n s =
       b 7 (omega arith),
       b 8 (omega arith),
       b 9 (omega arith),
+    )
+
+-- ---- "All else"
+
+-- "Bytes: 0/1 Features current/previous, 2/3 Sector Count, 4/5 LBA Low, 6/7 LBA Mid, 8/9 LBA High, 10 Device, 11 Command"
+pub record Places (m : List ℕ) : Type 0 where
+  pub featuresAt : features m ≡ getD m 0 0
+  pub countAt : (count8 m ≡ getD m 2 0) × (count16 m ≡ getD m 2 0 + 256 * getD m 3 0)
+  pub lowAt : lbaLow m ≡ getD m 4 0
+  pub midAt : (lbaMid m ≡ getD m 6 0) × (lbaMid16 m ≡ getD m 6 0 + 256 * getD m 7 0)
+  pub highAt : lbaHigh m ≡ getD m 8 0
+  pub commandAt : commandByte m ≡ getD m 11 0
+
+pub places : (m : List ℕ) → Places m
+unfolding get
+places m =
+    record { featuresAt = refl; countAt = (refl, omega arith); lowAt = refl; midAt = (refl, omega arith); highAt = refl; commandAt = refl }
+
+-- B0h without "LBA Mid 4Fh, High C2h", or with Features other than "D5h (read log) or D6h (write log)"
+pub smart-mid : (m : List ℕ) → getD m 11 0 ≡ 0xB0 → (getD m 6 0 ≡ 0x4F → ⊥) → requestOf m ≡ other
+unfolding requestOf smartLog
+smart-mid m c ne = rw (c, ne-eqb (getD m 6 0) 0x4F ne)
+
+pub smart-high : (m : List ℕ) → getD m 11 0 ≡ 0xB0 → (getD m 8 0 ≡ 0xC2 → ⊥) → requestOf m ≡ other
+unfolding requestOf smartLog
+smart-high m c ne = rw (c, ne-eqb (getD m 8 0) 0xC2 ne, and-false (eqb (getD m 6 0) 0x4F))
+
+pub smart-features : (m : List ℕ) → getD m 11 0 ≡ 0xB0 → (getD m 0 0 ≡ 0xD5 → ⊥) → (getD m 0 0 ≡ 0xD6 → ⊥) → requestOf m ≡ other
+unfolding requestOf smartLog
+smart-features m c r w = rw (c, ne-eqb (getD m 0 0) 0xD5 r, ne-eqb (getD m 0 0) 0xD6 w) (go (eqb (getD m 6 0) 0x4F && eqb (getD m 8 0) 0xC2))
+  where
+    go : (b : Bool) → (if b then other else other) ≡ other
+    go true = refl
+    go false = refl
+
+-- 2Fh or 3Fh without "both LBA Mid bytes 0"
+pub ext-read-mid : (m : List ℕ) → getD m 11 0 ≡ 0x2F → (getD m 6 0 + 256 * getD m 7 0 ≡ 0 → ⊥) → requestOf m ≡ other
+unfolding requestOf logExt
+ext-read-mid m c ne = rw (c, ne-eqb (lbaMid16 m) 0 (λ e. ne (sym (places m .midAt .1) ∙ e)))
+
+pub ext-write-mid : (m : List ℕ) → getD m 11 0 ≡ 0x3F → (getD m 6 0 + 256 * getD m 7 0 ≡ 0 → ⊥) → requestOf m ≡ other
+unfolding requestOf logExt
+ext-write-mid m c ne = rw (c, ne-eqb (lbaMid16 m) 0 (λ e. ne (sym (places m .midAt .1) ∙ e)))
+
+-- "LBA Low (current) E0h or E1h"
+pub page-other : (d : Direction) (page count : ℕ) → (page ≡ 0xE0 → ⊥) → (page ≡ 0xE1 → ⊥) → logPage d page count ≡ other
+unfolding logPage
+page-other d page count a b = rw (ne-eqb page 0xE0 a, ne-eqb page 0xE1 b)
+
+-- no command but B0h, 2Fh, 3Fh, 24h and 34h
+pub record NoCommand (c : ℕ) : Type 0 where
+  pub notSmart : c ≡ 0xB0 → ⊥
+  pub notReadLog : c ≡ 0x2F → ⊥
+  pub notWriteLog : c ≡ 0x3F → ⊥
+  pub notRead : c ≡ 0x24 → ⊥
+  pub notWrite : c ≡ 0x34 → ⊥
+
+pub command-other : (m : List ℕ) → NoCommand (getD m 11 0) → requestOf m ≡ other
+unfolding requestOf
+command-other m n =
+    let c = getD m 11 0 in
+    rw (
+      ne-eqb c 0xB0 (n .notSmart),
+      ne-eqb c 0x2F (n .notReadLog),
+      ne-eqb c 0x3F (n .notWriteLog),
+      ne-eqb c 0x24 (n .notRead),
+      ne-eqb c 0x34 (n .notWrite),
     )

@@ -73,9 +73,12 @@ module _ (p : ℕ) (M : Machine) (m : List ℕ) (port : p < portCount) (held : M
 
   -- ---- status
 
+  pub decided-status : requestOf m ≡ statusRead → M .device .locked ≡ false → decide p m (M .device) ≡ decision (M .device) (good 0 0) sendStatus
+  decided-status e unlocked = decided statusRead e ∙ rw unlocked
+
   pub serves-status : requestOf m ≡ statusRead → M .device .locked ≡ false
       → Serves p M (replyBytes (good 0 0) (statusSector (M .device))) (M .device) (M .disk)
-  serves-status e unlocked = serves {c = decision (M .device) (good 0 0) sendStatus} (decided statusRead e ∙ rw unlocked)
+  serves-status e unlocked = serves (decided-status e unlocked)
 
   -- "A refused status read under the lock answers 0012h and stores nothing."
   pub serves-status-locked : requestOf m ≡ statusRead → M .device .locked ≡ true
@@ -101,7 +104,7 @@ module _ (p : ℕ) (M : Machine) (m : List ℕ) (port : p < portCount) (held : M
       → Serves p M (replyBytes (refusedWith code) []) (withCode code keyed) (M .disk)
   serves-key-refused code e j = serves (decided-key e (rejected code) j)
 
-  decided-accepted : requestOf m ≡ keySector → (a : Action) → keyJudged ≡ accepted a → decide p m (M .device) ≡ carryOut a p keyed
+  pub decided-accepted : requestOf m ≡ keySector → (a : Action) → keyJudged ≡ accepted a → decide p m (M .device) ≡ carryOut a p keyed
   decided-accepted e a j = decided-key e (accepted a) j
 
   -- "Pattern fill starts at once": code FFFFh, next is first; no sector is written yet
@@ -154,7 +157,7 @@ module _ (p : ℕ) (M : Machine) (m : List ℕ) (port : p < portCount) (held : M
   abbrev pub dataCode : Direction → ℕ → ℕ
   dataCode dir count = firstFailed (dataChecks (M .device .locked) dir count (getD (M .device .command .pending) p none))
 
-  decided-data : (dir : Direction) (count : ℕ) → requestOf m ≡ dataTransfer dir count
+  pub decided-data : (dir : Direction) (count : ℕ) → requestOf m ≡ dataTransfer dir count
       → decide p m (M .device) ≡ decideData dir count (getD (M .device .command .pending) p none) (dataOf m) (interrupt (M .device))
   decided-data dir count e = decided (dataTransfer dir count) e
 

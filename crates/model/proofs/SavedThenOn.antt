@@ -9,11 +9,12 @@ use Rattle.model.specs.Sizes.{sectorSize, entrySize}
 use Rattle.model.specs.Image.{savedFrom, saveChecks, savedImage, powerOnChecks, restored}
 use Rattle.model.specs.Image.{powerOn as powerOnDevice}
 use Rattle.model.specs.Machine.{Machine}
-use Rattle.model.specs.Step.{Step, save, powerOn, Seen, Outcome, answeredImage, checks, poweredOn, step}
+use Rattle.model.specs.Step.{Step, save, powerOn, Seen, Outcome, answeredImage, checks, step}
 use Rattle.model.specs.Valid.{MachineValid}
 use Rattle.model.proofs.StepLaws.{step-done, answer-is}
 use Rattle.model.proofs.SaveLaws.{power-on-after-save, restored-saved}
 use Rattle.model.proofs.PowerOnLaws.{KeptRules, kept-rules}
+use Rattle.model.proofs.ImageSteps.{power-on-leaves}
 
 -- N is a machine on the disk of M: it may have gone on since, but for its size
 module _ (M N : Machine) (image : List ℕ) (used : ℕ) (ok : MachineValid M) (disk : length (N .disk) ≡ length (M .disk)) (saves : step (save image used) M .seen .answer ≡ 0) where
@@ -36,9 +37,8 @@ module _ (M N : Machine) (image : List ℕ) (used : ℕ) (ok : MachineValid M) (
   power-on-answers = answer-is (powerOn (saved .image) (saved .used)) N ∙ on-passed
 
   device-on : step (powerOn (saved .image) (saved .used)) N .state .device ≡ powerOnDevice (savedFrom (M .device))
-  unfolding poweredOn
   device-on =
-      ap (λ (o : Outcome Machine). o .state .device) (step-done (powerOn (saved .image) (saved .used)) N on-passed)
+      power-on-leaves (saved .image) (saved .used) N power-on-answers .device
       ∙ rw saved-is
       (ap powerOnDevice
       (ap (λ (n : ℕ). restored n (savedImage (M .device) image used) (used + entrySize)) native-is ∙ restored-saved (M .device) image used (ok .deviceValid) passed))

@@ -10,8 +10,8 @@ use borrow.Author.Tests.{eq-eqb, ne-eqb, lt-ltb}
 use Rattle.wire.specs.Choice.{if_then_else_, Check, firstFailed}
 use Rattle.wire.proofs.ChoiceLaws.{Numbered, all-pass, pass-all, first-bound}
 use Rattle.model.specs.Sizes.{portCount, mailboxSize, done, refusalOrder}
-use Rattle.model.specs.Machine.{Port, empty, request, reply, Machine, withPort, heldBytes}
-use Rattle.model.specs.Step.{Step, take, serve, give, work, lock, unlock, setVisible, sample, save, powerOn, Seen, Outcome, checks, unchanged, seenDone, answerOnly, answeredMailbox, does, attempt, step}
+use Rattle.model.specs.Machine.{Port, empty, request, reply, Machine, whileRunning, withPort, heldBytes}
+use Rattle.model.specs.Step.{Step, take, serve, give, work, lock, unlock, setVisible, sample, save, powerOn, Seen, Outcome, checks, unchanged, seenDone, answerOnly, answeredMailbox, does, attempt, step, trace}
 
 -- a step that no check refuses is done
 pub step-done : (x : Step) (M : Machine) → firstFailed (checks x M) ≡ 0 → step x M ≡ record { state = does x M; seen = seenDone x M }
@@ -56,6 +56,9 @@ answer-is x M = go (firstFailed (checks x M)) refl
     go (suc n) e = rw (step-refused x M n e) (unchanged-answer x (suc n) ∙ sym e)
 
 -- ---- "Order where several apply: 4, 2, 1, 5, 3, 6, 7, 8."
+
+pub order-numbers : refusalOrder ≡ 4 ∷ 2 ∷ 1 ∷ 5 ∷ 3 ∷ 6 ∷ 7 ∷ 8 ∷ []
+order-numbers = refl
 
 -- how early a number stands in a list
 abbrev pub place : List ℕ → ℕ → ℕ
@@ -116,6 +119,23 @@ give-delivers p m r M h size e =
     rw (step-done (give p m) M (pass-all (checks (give p m) M) (eq-eqb (length m) mailboxSize size, (lt-ltb p portCount h, (rw e, tt)))))
     (rw e, port-same p empty (M .ports))
 
+-- a take or a give changes its port alone
+pub record PortAlone (p : ℕ) (M N : Machine) : Type 0 where
+  pub device : N .device ≡ M .device
+  pub disk : N .disk ≡ M .disk
+  pub sector : N .sector ≡ whileRunning (M .device .command .fill) (M .sector)
+  pub others : (q : ℕ) → (q ≡ p → ⊥) → N .ports q ≡ M .ports q
+
+pub take-alone : (p : ℕ) (m : List ℕ) (M : Machine) → step (take p m) M .seen .answer ≡ 0 → PortAlone p M (step (take p m) M .state)
+take-alone p m M e =
+    rw (step-done (take p m) M (sym (answer-is (take p m) M) ∙ e))
+    (record { device = refl; disk = refl; sector = refl; others = λ q ne. port-other p q (request m) (M .ports) ne })
+
+pub give-alone : (p : ℕ) (m : List ℕ) (M : Machine) → step (give p m) M .seen .answer ≡ 0 → PortAlone p M (step (give p m) M .state)
+give-alone p m M e =
+    rw (step-done (give p m) M (sym (answer-is (give p m) M) ∙ e))
+    (record { device = refl; disk = refl; sector = refl; others = λ q ne. port-other p q empty (M .ports) ne })
+
 -- what give finds in the mailbox changes nothing
 pub give-blind : (p : ℕ) (m n : List ℕ) (M : Machine) → length m ≡ length n → step (give p m) M .state ≡ step (give p n) M .state
 unfolding step
@@ -126,3 +146,89 @@ give-blind p m n M e = rw e (go (firstFailed (checks (give p n) M)))
         ≡ attempt k M (unchanged (give p n) k) (record { state = does (give p n) M; seen = seenDone (give p n) M }) .state
     go zero = refl
     go (suc k) = refl
+
+-- ---- the buffers
+
+-- what a step is fed: a mailbox, an image, its used length; [] and 0 where it is fed none
+abbrev pub mailboxOf : Step → List ℕ
+mailboxOf (take p m) = m
+mailboxOf (serve s) = []
+mailboxOf (give p m) = m
+mailboxOf (work n) = []
+mailboxOf lock = []
+mailboxOf unlock = []
+mailboxOf (setVisible v) = []
+mailboxOf (sample reading) = []
+mailboxOf (save image used) = []
+mailboxOf (powerOn image used) = []
+
+abbrev pub imageOf : Step → List ℕ × ℕ
+imageOf (take p m) = ([], 0)
+imageOf (serve s) = ([], 0)
+imageOf (give p m) = ([], 0)
+imageOf (work n) = ([], 0)
+imageOf lock = ([], 0)
+imageOf unlock = ([], 0)
+imageOf (setVisible v) = ([], 0)
+imageOf (sample reading) = ([], 0)
+imageOf (save image used) = (image, used)
+imageOf (powerOn image used) = (image, used)
+
+-- no sector is counted, and the buffers are as they were
+pub record Untouched (x : Step) (s : Seen) : Type 0 where
+  pub count : s .count ≡ 0
+  pub mailbox : s .mailbox ≡ mailboxOf x
+  pub image : s .image ≡ imageOf x .0
+  pub used : s .used ≡ imageOf x .1
+
+unchanged-untouched : (x : Step) (n : ℕ) → Untouched x (unchanged x n)
+unchanged-untouched (take p m) n = record { count = refl; mailbox = refl; image = refl; used = refl }
+unchanged-untouched (serve s) n = record { count = refl; mailbox = refl; image = refl; used = refl }
+unchanged-untouched (give p m) n = record { count = refl; mailbox = refl; image = refl; used = refl }
+unchanged-untouched (work k) n = record { count = refl; mailbox = refl; image = refl; used = refl }
+unchanged-untouched lock n = record { count = refl; mailbox = refl; image = refl; used = refl }
+unchanged-untouched unlock n = record { count = refl; mailbox = refl; image = refl; used = refl }
+unchanged-untouched (setVisible v) n = record { count = refl; mailbox = refl; image = refl; used = refl }
+unchanged-untouched (sample reading) n = record { count = refl; mailbox = refl; image = refl; used = refl }
+unchanged-untouched (save image used) n = record { count = refl; mailbox = refl; image = refl; used = refl }
+unchanged-untouched (powerOn image used) n = record { count = refl; mailbox = refl; image = refl; used = refl }
+
+-- "A nonzero answer changes nothing anywhere; work then reports 0."
+pub refused-untouched : (x : Step) (M : Machine) (n : ℕ) → step x M .seen .answer ≡ suc n → (step x M .state ≡ M) × Untouched x (step x M .seen)
+refused-untouched x M n e = rw (step-refused x M n (sym (answer-is x M) ∙ e)) (refl, unchanged-untouched x (suc n))
+
+-- only give, work and save are seen in more than their answer
+abbrev pub Silent : Step → Type 0
+Silent (take p m) = Unit {0}
+Silent (serve s) = Unit {0}
+Silent (give p m) = ⊥
+Silent (work n) = ⊥
+Silent lock = Unit {0}
+Silent unlock = Unit {0}
+Silent (setVisible v) = Unit {0}
+Silent (sample reading) = Unit {0}
+Silent (save image used) = ⊥
+Silent (powerOn image used) = Unit {0}
+
+silent-seen : (x : Step) (M : Machine) → Silent x → seenDone x M ≡ unchanged x done
+silent-seen (take p m) M s = refl
+silent-seen (serve x) M s = refl
+silent-seen (give p m) M s = absurd s
+silent-seen (work n) M s = absurd s
+silent-seen lock M s = refl
+silent-seen unlock M s = refl
+silent-seen (setVisible v) M s = refl
+silent-seen (sample reading) M s = refl
+silent-seen (save image used) M s = absurd s
+silent-seen (powerOn image used) M s = refl
+
+pub silent-untouched : (x : Step) (M : Machine) → Silent x → step x M .seen .answer ≡ 0 → Untouched x (step x M .seen)
+silent-untouched x M s e = rw (step-done x M (sym (answer-is x M) ∙ e), silent-seen x M s) (unchanged-untouched x done)
+
+-- ---- a list of steps: each goes on from the state that the last one left
+
+pub trace-none : {S : Type 0} (f : Step → S → Outcome S) (s : S) → trace f [] s ≡ []
+trace-none f s = refl
+
+pub trace-two : {S : Type 0} (f : Step → S → Outcome S) (x y : Step) (s : S) → trace f (x ∷ y ∷ []) s ≡ f x s ∷ f y (f x s .state) ∷ []
+trace-two f x y s = refl

@@ -13,8 +13,11 @@ use lib.Dec.{T, eqb, leb, ltb, le→leb}
 use borrow.Author.Tests.{eqb-true, eq-eqb, ne-eqb, leb-false, le-leb, lt-ltb, le-ltb}
 use Rattle.wire.specs.Choice.{if_then_else_}
 use Rattle.model.specs.Sizes.{historySize, missing}
-use Rattle.model.specs.Device.{Thermal}
+use Rattle.model.specs.Device.{Thermal, Device}
 use Rattle.model.specs.Temperature.{signed, newMaximum, nextIndex, sampled}
+use Rattle.model.specs.Owner.{sample as sampleDevice}
+use Rattle.model.specs.Machine.{Machine, whileRunning}
+use Rattle.model.specs.Step.{Step, sample as sampleStep, Outcome, step}
 
 -- ---- the maximum
 
@@ -96,3 +99,66 @@ sample-logs interval sample t e = rw (le-ltb (suc (t .minutes)) interval (omega 
 pub sample-now : (interval sample : ℕ) (t : Thermal) → sampled interval sample t .now ≡ sample
 unfolding sampled
 sample-now interval sample t = refl
+
+-- both maxima take the sample alike
+pub sample-maxima : (interval sample : ℕ) (t : Thermal)
+    → (sampled interval sample t .cycleMaximum ≡ newMaximum sample (t .cycleMaximum))
+    × (sampled interval sample t .lifeMaximum ≡ newMaximum sample (t .lifeMaximum))
+unfolding sampled
+sample-maxima interval sample t = (refl, refl)
+
+-- ---- the step
+
+module _ (reading : ℕ) (M : Machine) where
+  abbrev before : Thermal
+  before = M .device .thermal
+
+  abbrev after : Machine
+  after = step (sampleStep reading) M .state
+
+  pub step-temperatures : (after .device .thermal .now ≡ reading)
+      × (after .device .thermal .cycleMaximum ≡ newMaximum reading (before .cycleMaximum))
+      × (after .device .thermal .lifeMaximum ≡ newMaximum reading (before .lifeMaximum))
+  unfolding step sampleDevice sampled
+  step-temperatures = (refl, refl, refl)
+
+  -- the interval is feature 3's state: below it the minute is counted ..
+  pub step-counts : before .minutes + 1 < M .device .settings .logInterval .state
+      → (after .device .thermal .minutes ≡ before .minutes + 1)
+      × (after .device .thermal .history ≡ before .history)
+      × (after .device .thermal .index ≡ before .index)
+  unfolding step sampleDevice
+  step-counts h =
+      let c = sample-counts (M .device .settings .logInterval .state) reading before (omega arith) in
+      (c .0 ∙ omega arith, c .1, c .2)
+
+  -- .. and "When the minutes reach the interval, the sample (missing too) is logged and the minutes restart."
+  pub step-logs : before .minutes + 1 ≡ M .device .settings .logInterval .state
+      → (after .device .thermal .minutes ≡ 0)
+      × (after .device .thermal .index ≡ nextIndex (before .index))
+      × (after .device .thermal .history ≡ set (before .history) (nextIndex (before .index)) reading)
+  unfolding step sampleDevice
+  step-logs e = sample-logs (M .device .settings .logInterval .state) reading before (omega arith)
+
+-- a sample leaves all but the temperatures
+pub record SampleKeeps (M N : Machine) : Type 0 where
+  pub sizes : (N .device .native ≡ M .device .native) × (N .device .visible ≡ M .device .visible)
+  pub lockAndFlag : (N .device .locked ≡ M .device .locked) × (N .device .initialized ≡ M .device .initialized)
+  pub command : N .device .command ≡ M .device .command
+  pub settings : N .device .settings ≡ M .device .settings
+  pub sector : N .sector ≡ whileRunning (M .device .command .fill) (M .sector)
+  pub ports : N .ports ≡ M .ports
+  pub disk : N .disk ≡ M .disk
+
+pub sample-keeps : (reading : ℕ) (M : Machine) → SampleKeeps M (step (sampleStep reading) M .state)
+unfolding step sampleDevice
+sample-keeps reading M =
+    record {
+      sizes = (refl, refl);
+      lockAndFlag = (refl, refl);
+      command = refl;
+      settings = refl;
+      sector = refl;
+      ports = refl;
+      disk = refl;
+    }

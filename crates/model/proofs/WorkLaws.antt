@@ -1,6 +1,6 @@
 -- Laws of the fill and the work step, in document 01's words: which places are written, how far it moves, what is counted.
 use mathlib.Core.Path.{_≡_, refl, sym, ap, ap₂, _∙_}
-use mathlib.Core.Bool.{Bool, true, false, _&&_}
+use mathlib.Core.Bool.{Bool, true, false, _&&_, and-false}
 use Prim.Native.Nat.{ℕ, zero, suc, _+_, _-_, _*_, _≤_, _<_, min}
 use native.Mathlib.Omega.{arith}
 use native.Mathlib.Decide.{decLt}
@@ -12,6 +12,7 @@ use lib.Dec.{eqb}
 use borrow.Author.Tests.{eq-eqb, ne-eqb}
 use Rattle.wire.specs.Choice.{if_then_else_}
 use Rattle.wire.specs.Parts.{part, repeated}
+use Rattle.wire.proofs.ChoiceLaws.{and-both}
 use Rattle.wire.proofs.NumbersLaws.{getD-sets-before, getD-sets-after}
 use Rattle.wire.proofs.PartsLaws.{part-same, part-part, part-repeated, length-repeated, repeated-snoc, sets-append, drop-sets-after}
 use Rattle.model.specs.Sizes.{sectorSize}
@@ -19,7 +20,7 @@ use Rattle.model.specs.Device.{Fill, idle, running, Device}
 use Rattle.model.specs.Update.{withFill, withInitialized}
 use Rattle.model.specs.Fill.{Volume, runningCode, writeSector, wholeDisk, advanced, fillStep, sectorStep, iterate, remaining, workCount}
 use Rattle.model.specs.Fill.{work as workVolume}
-use Rattle.model.specs.Machine.{Machine}
+use Rattle.model.specs.Machine.{Machine, whileRunning}
 use Rattle.model.specs.Step.{Step, work, Outcome, step, volume, worked}
 
 -- a volume of v, its fill moved to a place, with these bytes from the fill's sector next on
@@ -99,6 +100,11 @@ work-still : (n : ℕ) (M : Machine) → workCount n (M .device .command .fill) 
 unfolding step worked workVolume
 work-still n M e = rw e (refl, refl, refl)
 
+-- the ports stay
+pub work-ports : (n : ℕ) (M : Machine) → step (work n) M .state .ports ≡ M .ports
+unfolding step worked
+work-ports n M = refl
+
 -- "None running, or n = 0: reports 0"
 pub work-idle : (n : ℕ) (M : Machine) → M .device .command .fill ≡ idle
     → (step (work n) M .seen .count ≡ 0) × (step (work n) M .state .device ≡ M .device) × (step (work n) M .state .disk ≡ M .disk)
@@ -164,11 +170,29 @@ module _ (n : ℕ) (M : Machine) (first next end : ℕ) (runs : M .device .comma
   pub work-moves : 0 < k → next + k < end → after .state .device ≡ withFill (running first (next + k) end) runningCode (withInitialized false (M .device))
   work-moves p h = device-after p ∙ advanced-runs first (next + k) end (withInitialized false (M .device)) h
 
+  -- a fill that runs on keeps its sector
+  pub work-sector : 0 < k → next + k < end → after .state .sector ≡ M .sector
+  unfolding step worked
+  work-sector p h = ap (λ (d : Device). whileRunning (d .command .fill) (M .sector)) (work-moves p h)
+
   -- "at end the fill is over": "its last sector stores 0000h"; the flag is "set when a fill from 0 to the last user LBA ends"
   pub work-ends : end ≤ next + n → after .state .device ≡ withInitialized (wholeDisk first end (M .device .visible)) (withFill idle 0x0000 (M .device))
   work-ends h =
       device-after (omega arith)
       ∙ rw (eq-eqb (next + k) end (omega arith))
+
+  -- The flag is "set when a fill from 0 to the last user LBA ends", and only then.
+  flag-ends : end ≤ next + n → after .state .device .initialized ≡ (eqb first 0 && eqb end (M .device .visible))
+  flag-ends h = ap (λ (d : Device). d .initialized) (work-ends h)
+
+  pub whole-fill-sets : end ≤ next + n → first ≡ 0 → end ≡ M .device .visible → after .state .device .initialized ≡ true
+  whole-fill-sets h low high = flag-ends h ∙ and-both (eqb first 0) (eqb end (M .device .visible)) (eq-eqb first 0 low) (eq-eqb end (M .device .visible) high)
+
+  pub later-fill-clears : end ≤ next + n → (first ≡ 0 → ⊥) → after .state .device .initialized ≡ false
+  later-fill-clears h low = flag-ends h ∙ rw (ne-eqb first 0 low)
+
+  pub shorter-fill-clears : end ≤ next + n → (end ≡ M .device .visible → ⊥) → after .state .device .initialized ≡ false
+  shorter-fill-clears h high = flag-ends h ∙ rw (ne-eqb end (M .device .visible) high) (and-false (eqb first 0))
 
   -- "A work that invents its count: it equals the sectors by which the fill moved."
   pub work-count-moved : after .seen .count ≡ position end (after .state .device .command .fill) - next

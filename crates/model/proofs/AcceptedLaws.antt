@@ -1,0 +1,88 @@
+-- What an accepted key asks, for each action and function, and which bytes its numbers are.
+use mathlib.Core.Path.{_≡_, refl, _∙_}
+use mathlib.Core.Bool.{Bool, true, false}
+use Prim.Native.Nat.{ℕ, suc, _+_, _*_, _^_}
+use native.Mathlib.Omega.{arith}
+use mathlib.Core.List.{List}
+use lib.ListN.{getD}
+use lib.Dec.{eqb}
+use Rattle.wire.specs.Numbers.{get}
+use Rattle.wire.proofs.NumbersLaws.{get-join}
+use Rattle.model.specs.Device.{Device}
+use Rattle.model.specs.Registers.{Direction, read, write}
+use Rattle.model.specs.Key.{word, start, count, FeatureName, writeCache, reordering, logInterval, Action, setTimer, returnTimer, setFeature, returnState, returnOption, sendTable, timerName, featureName, actionOf, accepted, judgeKey}
+use Rattle.model.proofs.KeyLaws.{featureNumber, key-accepted}
+
+-- ---- the bytes of a key's numbers
+
+-- word i is the two bytes from 2i, low byte first
+pub word-bytes : (k : List ℕ) (i : ℕ) → word k i ≡ getD k (2 * i) 0 + 256 * getD k (suc (2 * i)) 0
+unfolding get
+word-bytes k i = omega arith
+
+-- "Start bytes 4-11, Count 12-19"
+pub start-bytes : (k : List ℕ) → start k ≡ get 4 k 4 + 2 ^ 32 * get 4 k 8
+start-bytes k = get-join 4 4 k 4
+
+pub count-bytes : (k : List ℕ) → count k ≡ get 4 k 12 + 2 ^ 32 * get 4 k 16
+count-bytes k = get-join 4 4 k 12
+
+-- ---- names
+
+-- "word 2 is 1 read or 2 write"
+abbrev pub timerNumber : Direction → ℕ
+timerNumber read = 1
+timerNumber write = 2
+
+pub timer-named : (t : Direction) → timerName (timerNumber t) ≡ t
+timer-named read = refl
+timer-named write = refl
+
+-- "1 (write cache)", "2 (reordering)", "3 (log interval)"
+pub feature-named : (f : FeatureName) → featureName (featureNumber f) ≡ f
+feature-named writeCache = refl
+feature-named reordering = refl
+feature-named logInterval = refl
+
+-- "Option 1 keeps a state over power": word 4 is 0 or 1
+abbrev pub optionNumber : Bool → ℕ
+optionNumber true = 1
+optionNumber false = 0
+
+option-named : (keep : Bool) → eqb (optionNumber keep) 1 ≡ keep
+option-named true = refl
+option-named false = refl
+
+-- ---- what is asked
+
+module _ (d : Device) (k : List ℕ) (a : Action) (accepts : judgeKey d k ≡ accepted a) where
+  asked : a ≡ actionOf (d .visible) k
+  asked = key-accepted d k a accepts .1
+
+  -- "3 timers": "1 set, 2 return"
+  pub accepted-set-timer : (t : Direction) → word k 0 ≡ 3 → word k 1 ≡ 1 → word k 2 ≡ timerNumber t → a ≡ setTimer t (word k 3)
+  unfolding actionOf
+  accepted-set-timer t three one two = asked ∙ rw (three, one, two, timer-named t)
+
+  pub accepted-return-timer : (t : Direction) → word k 0 ≡ 3 → word k 1 ≡ 2 → word k 2 ≡ timerNumber t → a ≡ returnTimer t
+  unfolding actionOf
+  accepted-return-timer t three one two = asked ∙ rw (three, one, two, timer-named t)
+
+  -- "4 feature": "1 set, 2 state, 3 options"
+  pub accepted-set-feature : (f : FeatureName) (keep : Bool) → word k 0 ≡ 4 → word k 1 ≡ 1 → word k 2 ≡ featureNumber f → word k 4 ≡ optionNumber keep
+      → a ≡ setFeature f (word k 3) keep
+  unfolding actionOf
+  accepted-set-feature f keep four one two o = asked ∙ rw (four, one, two, o, feature-named f, option-named keep)
+
+  pub accepted-return-state : (f : FeatureName) → word k 0 ≡ 4 → word k 1 ≡ 2 → word k 2 ≡ featureNumber f → a ≡ returnState f
+  unfolding actionOf
+  accepted-return-state f four one two = asked ∙ rw (four, one, two, feature-named f)
+
+  pub accepted-return-option : (f : FeatureName) → word k 0 ≡ 4 → word k 1 ≡ 3 → word k 2 ≡ featureNumber f → a ≡ returnOption f
+  unfolding actionOf
+  accepted-return-option f four one two = asked ∙ rw (four, one, two, feature-named f)
+
+  -- "5 table"
+  pub accepted-table : word k 0 ≡ 5 → a ≡ sendTable
+  unfolding actionOf
+  accepted-table five = asked ∙ rw five

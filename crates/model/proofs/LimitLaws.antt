@@ -1,0 +1,39 @@
+-- The limits of document 01, as numbers.
+use mathlib.Core.Path.{_≡_, refl}
+use mathlib.Core.Bool.{true, false, and-false}
+use Prim.Native.Nat.{ℕ, _+_, _*_, _/_, _%_, _≤_, _<_}
+use native.Mathlib.Omega.{arith}
+use mathlib.Core.List.{List}
+use lib.ListN.{length}
+use lib.Dec.{ltb}
+use borrow.Author.Tests.{lt-leb, le-leb}
+use Rattle.model.specs.Image.{readable, sameDisk, hasRoom, wholeSectors}
+use Rattle.model.specs.Machine.{Machine}
+use Rattle.model.specs.Step.{save}
+use Rattle.model.proofs.RefusalLaws.{answerOf, save-full}
+use Rattle.model.proofs.ImageLaws.{readable-parts}
+
+-- "power-on: not 1 to 65,536 whole sectors"
+pub disk-sizes : (wholeSectors 512 ≡ true) × (wholeSectors (512 * 65536) ≡ true)
+disk-sizes = (refl, refl)
+
+pub disk-sizes-refused : (wholeSectors 0 ≡ false) × (wholeSectors 513 ≡ false) × (wholeSectors (512 * 65537) ≡ false)
+disk-sizes-refused = (refl, refl, refl)
+
+-- "The used length is a multiple of 560, at most 65,520"
+pub readable-length : (image : List ℕ) (used : ℕ) → readable image used ≡ true → (used % 560 ≡ 0) × (used ≤ 65520)
+readable-length image used h = let r = readable-parts image used h in (r .multiple, omega (arith, r .most))
+
+-- "image has 117 entries, or its buffer lacks 560 more bytes"
+pub room-full : (image : List ℕ) → hasRoom image 65520 ≡ false
+room-full image = refl
+
+pub room-last : (image : List ℕ) → 65520 ≤ length image → hasRoom image 64960 ≡ true
+room-last image h = rw (le-leb 65520 (length image) h)
+
+pub room-short : (image : List ℕ) (used : ℕ) → length image < used + 560 → hasRoom image used ≡ false
+room-short image used h = rw (lt-leb (used + 560) (length image) h) (and-false (ltb (used / 560) 117))
+
+pub save-at-limit : (image : List ℕ) (M : Machine) → 65520 ≤ length image → readable image 65520 ≡ true → sameDisk (M .device .native) image 65520 ≡ true
+    → answerOf (save image 65520) M ≡ 8
+save-at-limit image M fits r d = save-full image 65520 M fits r d (room-full image)
