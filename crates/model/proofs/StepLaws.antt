@@ -36,7 +36,7 @@ seen-done (sample reading) M = refl
 seen-done (save image used) M = refl
 seen-done (powerOn image used) M = refl
 
-pub unchanged-answer : (x : Step) (n : ℕ) → unchanged x n .answer ≡ n
+unchanged-answer : (x : Step) (n : ℕ) → unchanged x n .answer ≡ n
 unchanged-answer (take p m) n = refl
 unchanged-answer (serve s) n = refl
 unchanged-answer (give p m) n = refl
@@ -48,12 +48,14 @@ unchanged-answer (sample reading) n = refl
 unchanged-answer (save image used) n = refl
 unchanged-answer (powerOn image used) n = refl
 
+-- an outcome that is done or refused by a number has that number for its answer
+pub answer-first : {S : Type 0} (x : Step) (n : ℕ) (o : Outcome S) (s t : S) (success : Seen) → success .answer ≡ done
+    → (n ≡ 0 → o ≡ record { state = t; seen = success }) → ((k : ℕ) → n ≡ suc k → o ≡ record { state = s; seen = unchanged x (suc k) }) → o .seen .answer ≡ n
+answer-first {S} x zero o s t success e f g = ap (λ (y : Outcome S). y .seen .answer) (f refl) ∙ e
+answer-first {S} x (suc k) o s t success e f g = ap (λ (y : Outcome S). y .seen .answer) (g k refl) ∙ unchanged-answer x (suc k)
+
 pub answer-is : (x : Step) (M : Machine) → step x M .seen .answer ≡ firstFailed (checks x M)
-answer-is x M = go (firstFailed (checks x M)) refl
-  where
-    go : (n : ℕ) → firstFailed (checks x M) ≡ n → step x M .seen .answer ≡ firstFailed (checks x M)
-    go zero e = rw (step-done x M e) (seen-done x M ∙ sym e)
-    go (suc n) e = rw (step-refused x M n e) (unchanged-answer x (suc n) ∙ sym e)
+answer-is x M = answer-first x (firstFailed (checks x M)) (step x M) M (does x M) (seenDone x M) (seen-done x M) (step-done x M) (step-refused x M)
 
 -- ---- "Order where several apply: 4, 2, 1, 5, 3, 6, 7, 8."
 

@@ -17,7 +17,7 @@ use Rattle.model.specs.Image.{saveChecks as imageChecks}
 use Rattle.model.specs.Machine.{Port, Machine, request}
 use Rattle.model.specs.Step.{Step, take, serve, give, work, lock, unlock, setVisible, sample, save, powerOn, Seen, Outcome, checks, unchanged, step}
 use Rattle.model.specs.Valid.{Fed, MachineValid}
-use Rattle.model.proofs.StepLaws.{keepsOrder, unchanged-answer, answer-is, step-done, step-refused}
+use Rattle.model.proofs.StepLaws.{keepsOrder, answer-first, answer-is, step-done, step-refused}
 use Rattle.model.proofs.TakenLaws.{Each, LeavesRequest, after, requests-stay}
 use Rattle.model.proofs.RefusalLaws.{power-on-empty}
 use Rattle.model.proofs.SaveLaws.{power-on-after-save}
@@ -60,11 +60,8 @@ done-answer (powerOn image used) s = refl
 
 -- the answer is the number of the first check, in that order, that fails
 pub entry-answer : (x : Step) (s : Store) → onStore x s .seen .answer ≡ firstFailed (storeChecks x s)
-entry-answer x s = go (firstFailed (storeChecks x s)) refl
-  where
-    go : (n : ℕ) → firstFailed (storeChecks x s) ≡ n → onStore x s .seen .answer ≡ firstFailed (storeChecks x s)
-    go zero e = rw (on-done x s e) (done-answer x s ∙ sym e)
-    go (suc n) e = rw (on-refused x s n e) (unchanged-answer x (suc n) ∙ sym e)
+entry-answer x s =
+    answer-first x (firstFailed (storeChecks x s)) (onStore x s) s (doneStore x s) (doneSeen x s) (done-answer x s) (on-done x s) (on-refused x s)
 
 -- THEOREM: every input, sound or not, has an answer from 0 to 8.
 pub answer-range : (x : Step) (s : Store) → onStore x s .seen .answer ≤ 8
