@@ -20,7 +20,7 @@ use Rattle.wire.proofs.PartsLaws.{length-zeros, getD-zeros}
 use Rattle.wire.proofs.LayoutLaws.{length-form, ordered-end}
 
 -- the bytes of a number that is read are the bytes that stand there
-le-get : (k : ℕ) (s : List ℕ) (at j : ℕ) → Bytes s → j < k → getD (le k (get k s at)) j 0 ≡ getD s (at + j) 0
+pub le-get : (k : ℕ) (s : List ℕ) (at j : ℕ) → Bytes s → j < k → getD (le k (get k s at)) j 0 ≡ getD s (at + j) 0
 unfolding le get
 le-get zero s at j b h = absurd (omega arith)
 le-get (suc k) s at zero b h = rw (add-zero at) (low (getD s at 0) (get k s (suc at)) (b at))

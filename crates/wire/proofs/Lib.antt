@@ -5,3 +5,4 @@ pub mod PartsLaws
 pub mod LayoutLaws
 pub mod BytesLaws
 pub mod FormUnique
+pub mod RunLaws

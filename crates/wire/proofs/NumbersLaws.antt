@@ -1,7 +1,7 @@
 -- Laws of numbers in runs of bytes: what is stored is read back, and a store leaves the rest.
 use mathlib.Core.Path.{_≡_, refl, sym, ap, _∙_}
 use Prim.Native.Nat.{ℕ, zero, suc, _+_, _*_, _/_, _%_, _^_, _≤_, _<_}
-use native.Mathlib.Nat.{suc-add, add-suc, zero-add, add-zero, pow-succ', mul-add, mul-assoc}
+use native.Mathlib.Nat.{suc-add, add-suc, zero-add, add-zero, pow-succ', mul-add, mul-assoc, mod-add-div, mod-lt}
 use native.Mathlib.Omega.{arith}
 use mathlib.Core.List.{List, [], _∷_, _++_}
 use lib.ListN.{length, getD, set, length-set, List·getD-append}
@@ -86,3 +86,25 @@ get-put (suc k) l at v h f =
   where
     below : (k v : ℕ) → v < 256 ^ suc k → v / 256 < 256 ^ k
     below k v f = let g : v < 256 * 256 ^ k = rw pow-succ' at f in omega arith
+
+-- a number stored as its low j bytes and then its k high ones
+put-join : (j k : ℕ) (l : List ℕ) (at low high : ℕ) → low < 256 ^ j → put k (put j l at low) (at + j) high ≡ put (j + k) l at (low + 256 ^ j * high)
+unfolding put le
+put-join zero k l at low high h =
+    let none : low + 256 ^ 0 * high ≡ high = omega arith in
+    rw (add-zero at, zero-add k, none)
+put-join (suc j) k l at low high h =
+    let below : low < 256 * 256 ^ j = rw pow-succ' at h in
+    let whole : 256 ^ suc j * high ≡ 256 * (256 ^ j * high) = rw (pow-succ', mul-assoc) in
+    let first : (low + 256 ^ suc j * high) % 256 ≡ low % 256 = rw whole (omega arith) in
+    let rest : (low + 256 ^ suc j * high) / 256 ≡ low / 256 + 256 ^ j * high = rw whole (omega arith) in
+    rw (suc-add j k, first, rest, add-suc at j, ← suc-add at j)
+    (put-join j k (set l at (low % 256)) (suc at) (low / 256) high (omega arith))
+
+pub put-halves : (j k : ℕ) (l : List ℕ) (at v : ℕ) → put k (put j l at (v % 256 ^ j)) (at + j) (v / 256 ^ j) ≡ put (j + k) l at v
+put-halves j k l at v =
+    put-join j k l at (v % 256 ^ j) (v / 256 ^ j) (mod-lt v (power-pos j)) ∙ rw (mod-add-div v (256 ^ j))
+  where
+    power-pos : (j : ℕ) → 0 < 256 ^ j
+    power-pos zero = omega arith
+    power-pos (suc j) = rw pow-succ' (omega (arith, power-pos j))
