@@ -2,6 +2,7 @@
 pub mod Starred
 pub mod RegisterLaws
 pub mod StepLaws
+pub mod FedLaws
 pub mod RefusalLaws
 pub mod KeyTable
 pub mod KeyLaws

@@ -130,3 +130,15 @@ module _ (v : ℕ) (M : Machine) (some : 1 ≤ v) (most : v ≤ M .device .nativ
         disk = refl;
       }
       )
+
+-- ---- "stops a running fill (code 0008h)"
+
+pub lock-code : (M : Machine) (first next end : ℕ) → M .device .command .fill ≡ running first next end
+    → (step lock M .state .device .command .code ≡ 0x0008) × (step unlock M .state .device .command .code ≡ 0x0008)
+unfolding step setLock
+lock-code M first next end e = (interrupt-code-running (M .device) first next end e, interrupt-code-running (M .device) first next end e)
+
+pub visible-code : (v : ℕ) (M : Machine) → 1 ≤ v → v ≤ M .device .native → (first next end : ℕ) → M .device .command .fill ≡ running first next end
+    → step (setVisible v) M .state .device .command .code ≡ 0x0008
+unfolding setVisibleDevice
+visible-code v M some most first next end e = rw (visible-set v M some most) (interrupt-code-running (M .device) first next end e)

@@ -1,4 +1,4 @@
--- A save that is answerOnly 0, and then a power-on from that image on that disk.
+-- A save that is answered 0, and then a power-on from that image on that disk.
 use mathlib.Core.Path.{_≡_, refl, sym, ap, _∙_}
 use Prim.Native.Nat.{ℕ, zero, suc, _+_, _*_, _/_}
 use native.Mathlib.Omega.{arith}

@@ -1,10 +1,11 @@
--- What a valid device has, in document 01's words and numbers ("A record is sound when").
+-- A valid device is one that meets document 01's clauses, in its words and numbers ("A record is sound when"), both ways.
 use mathlib.Core.Path.{_≡_, refl}
 use mathlib.Core.Logic.{_⊎_}
-use Prim.Native.Nat.{ℕ, zero, suc, _≤_, _<_}
+use Prim.Native.Nat.{ℕ, zero, suc, _^_, _≤_, _<_}
 use native.Mathlib.Omega.{arith}
 use mathlib.Core.List.{List, [], _∷_}
 use lib.ListN.{length, getD}
+use Rattle.wire.specs.Bytes.{Bytes}
 use Rattle.model.specs.Device.{Fill, idle, running, Transfer, none, table, fillData, Device}
 use Rattle.model.specs.Valid.{FillValid, PendingValid, pendingCount, pendingLimit, CodeValid, Valid}
 
@@ -80,4 +81,66 @@ valid-sound d v =
       minutes = t .minutesValid;
       index = omega (arith, t .indexValid);
       history = t .whole;
+    }
+
+-- ---- and back
+
+-- What `Valid` says beside those clauses: the places and widths of the values, and that one transfer is pending at most
+-- (document 01 speaks of one owed transfer).
+pub record Stored (d : Device) : Type 0 where
+  pub onlyOne : pendingCount (d .command .pending) ≤ 1
+  pub places : length (d .command .pending) ≡ 4
+  pub words : (d .command .code < 256 ^ 2) × (d .command .action < 256 ^ 2) × (d .command .function < 256 ^ 2)
+  pub timers : (d .settings .readTimer < 256 ^ 2) × (d .settings .writeTimer < 256 ^ 2)
+  pub readings : Bytes (d .thermal .history)
+  pub temperatures : (d .thermal .now < 256) × (d .thermal .cycleMaximum < 256) × (d .thermal .lifeMaximum < 256)
+
+fill-from : (visible : ℕ) (f : Fill) → ((first next end : ℕ) → f ≡ running first next end → (first ≤ next) × (next < end) × (end ≤ visible)) → FillValid visible f
+fill-from visible idle k = tt
+fill-from visible (running first next end) k = k first next end refl
+
+code-from : (f : Fill) (code : ℕ) → ((first next end : ℕ) → f ≡ running first next end → code ≡ 0xFFFF) → (f ≡ idle → code ≡ 0xFFFF → ⊥) → CodeValid f code
+code-from idle code k l = l refl
+code-from (running first next end) code k l = k first next end refl
+
+pending-from : (visible : ℕ) (ts : List Transfer) → ((p first end : ℕ) → getD ts p none ≡ fillData first end → (first < end) × (end ≤ visible)) → PendingValid visible ts
+pending-from visible [] k = tt
+pending-from visible (none ∷ ts) k = (tt, pending-from visible ts (λ p. k (suc p)))
+pending-from visible (table ∷ ts) k = (tt, pending-from visible ts (λ p. k (suc p)))
+pending-from visible (fillData first end ∷ ts) k = (k 0 first end refl, pending-from visible ts (λ p. k (suc p)))
+
+none-from : (ts : List Transfer) → ((p : ℕ) → getD ts p none ≡ none) → pendingCount ts ≤ 0
+none-from [] k = omega arith
+none-from (none ∷ ts) k = none-from ts (λ p. k (suc p))
+none-from (table ∷ ts) k = absurd (let e = k 0 in let z : _≡_ {A = ℕ} 0 1 = cc in omega arith)
+none-from (fillData first end ∷ ts) k = absurd (let e = k 0 in let z : _≡_ {A = ℕ} 0 1 = cc in omega arith)
+
+limit-from : (f : Fill) (ts : List Transfer) → pendingCount ts ≤ 1 → ((first next end p : ℕ) → f ≡ running first next end → getD ts p none ≡ none) → pendingCount ts ≤ pendingLimit f
+limit-from idle ts one k = one
+limit-from (running first next end) ts one k = none-from ts (λ p. k first next end p refl)
+
+pub sound-valid : (d : Device) → Sound d → Stored d → Valid d
+sound-valid d s t =
+    record {
+      sizes = s .sizes;
+      commandValid =
+          record {
+            codeValid = code-from (d .command .fill) (d .command .code) (s .runningCode) (s .idleCode);
+            fillValid = fill-from (d .visible) (d .command .fill) (s .fill);
+            pendingValid = pending-from (d .visible) (d .command .pending) (s .fillSector);
+            onlyOne = limit-from (d .command .fill) (d .command .pending) (t .onlyOne) (s .apart);
+            places = t .places;
+            words = t .words;
+          };
+      settingsValid =
+          record {
+            readValid = s .timers .0;
+            writeValid = s .timers .1;
+            cacheValid = s .writeCache;
+            reorderingValid = s .reordering;
+            intervalValid = s .logInterval;
+            words = t .timers;
+          };
+      thermalValid =
+          record { minutesValid = s .minutes; indexValid = omega (arith, s .index); whole = s .history; readings = t .readings; bytes = t .temperatures };
     }

@@ -1,4 +1,4 @@
--- Every step keeps document 01's ranges, and no step writes outside the visible disk of that moment.
+-- Every step keeps document 01's ranges.
 use mathlib.Core.Path.{_≡_, refl, sym, ap, ap₂, _∙_, subst}
 use mathlib.Core.Bool.{Bool, true, false, _||_}
 use mathlib.Core.Logic.{_⊎_, inl, inr}

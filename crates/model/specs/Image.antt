@@ -149,7 +149,7 @@ readable image used =
     && every (entries used) (entryHolds (newest image used .native) image)
 
 -- "Reading starts at the last trailer and follows the chain back": n entries, the last trailer at a place. It says the same as
--- "every entry" above (proofs/ImageLaws.antt, chain-every), and is what the code does.
+-- "every entry" above (proofs/ImageLaws.antt, chain-every).
 unfoldable pub chainHolds : ℕ → List ℕ → ℕ → ℕ → Bool
 chainHolds native image zero at = eqb at 0xFFFFFFFF
 chainHolds native image (suc k) at =

@@ -73,7 +73,7 @@ refused-untouched x s n e = on-refused x s n (sym (entry-answer x s) ∙ e)
 
 -- ---- the answers of a list
 
--- a number that every check's number, and 0, has a property has it too
+-- a property of 0 and of every check's number is one of the first number that fails
 abbrev EachNumber : (ℕ → Type 0) → List Check → Type 0
 EachNumber P [] = Unit {0}
 EachNumber P (c ∷ cs) = P (c .1) × EachNumber P cs
@@ -150,16 +150,19 @@ pub record AnswersRight (x : Step) (s : Store) : Type 0 where
   pub neverFour : onStore x s .seen .answer ≡ 4 → ⊥
   pub twoForLength : onStore x s .seen .answer ≡ 2 → LengthWrong x
 
+-- on valid bytes the answer is the machine's
+pub step-answer : (x : Step) (s : Store) → Fed x → StoreValid s → onStore x s .seen .answer ≡ firstFailed (checks x (machineOf s))
+step-answer x s fed v = ap (λ (o : Seen). o .answer) (follows x s fed v .seenSame) ∙ answer-is x (machineOf s)
+
 pub step-answers : (x : Step) (s : Store) → Fed x → StoreValid s → AnswersRight x s
 step-answers x s fed v =
-    let same : onStore x s .seen .answer ≡ firstFailed (checks x (machineOf s)) =
-    ap (λ (o : Seen). o .answer) (follows x s fed v .seenSame) ∙ answer-is x (machineOf s) in
+    let same = step-answer x s fed v in
     record {
       neverFour = λ e. first-among (λ n. n ≡ 4 → ⊥) (checks x (machineOf s)) (λ z. omega arith) (no-four x (machineOf s)) (sym same ∙ e);
       twoForLength = λ e. only-length x (machineOf s) (machine-valid s v) (sym same ∙ e);
     }
 
--- THEOREM: "after a power-on that answers 0" no step of a list answers 4, and 2 only for a mailbox's length or a used length.
+-- .. and of every step of a list from valid bytes
 abbrev pub ListAnswersRight : List Step → Store → Type 0
 ListAnswersRight [] s = Unit {0}
 ListAnswersRight (x ∷ xs) s = AnswersRight x s × ListAnswersRight xs (onStore x s .state)
@@ -231,7 +234,7 @@ after-same (x ∷ xs) s fed v =
     let f = follows x s (fed .0) v in
     after-same xs (onStore x s .state) (fed .1) (f .valid) ∙ ap (after xs) (f .same)
 
--- THEOREM: a request in a slot is the mailbox at its taking until it is served or power comes on.
+-- a request that a port holds stays there until it is served or power comes on
 pub request-kept : (p : ℕ) (m : List ℕ) (xs : List Step) (s : Store) → Each Fed xs → StoreValid s → machineOf s .ports p ≡ request m
     → Each (LeavesRequest p) xs → machineOf (storeAfter xs s) .ports p ≡ request m
 request-kept p m xs s fed v held leaves = ap (λ (M : Machine). M .ports p) (after-same xs s fed v) ∙ requests-stay p m xs (machineOf s) held leaves

@@ -18,7 +18,7 @@ use Rattle.model.proofs.HiddenLaws.{step-hidden, hidden}
 use Rattle.store.specs.Areas.{privateSize}
 use Rattle.store.specs.Record.{encode}
 use Rattle.store.specs.Store.{Store, machineOf}
-use Rattle.store.specs.Entries.{TakeAfter, powerOnChecks, poweredContents, powerOnDone, powerOnBytes}
+use Rattle.store.specs.Entries.{PowerOnAfter, powerOnChecks, poweredContents, powerOnDone, powerOnBytes}
 use Rattle.store.specs.OnStore.{store, onStore}
 use Rattle.store.specs.Condition3.{asMachine, keptHidden, HiddenKept, started, Condition3}
 use Rattle.store.proofs.FollowLaws.{StoreValid, machine-valid}
@@ -47,7 +47,7 @@ list-hidden (x ∷ xs) s fed v =
 
 -- ---- the first power-on
 
-passed : (n : ℕ) (x y : TakeAfter) → x .answer ≡ 0 → y .answer ≡ n → ifPassed n x y .answer ≡ n
+passed : (n : ℕ) (x y : PowerOnAfter) → x .answer ≡ 0 → y .answer ≡ n → ifPassed n x y .answer ≡ n
 passed zero x y p q = p
 passed (suc n) x y p q = q
 

@@ -1,4 +1,4 @@
--- One step: the bytes stay sound and say what the machine's step gives.
+-- Valid bytes, the machine that they say, and what a store into a slot or the fill sector changes of it.
 use mathlib.Core.Path.{_≡_, refl, sym, ap, ap₂, _∙_, subst, fun-ext}
 use mathlib.Core.Bool.{Bool, true, false, _&&_}
 use mathlib.Core.Logic.{_⊎_, inl, inr}

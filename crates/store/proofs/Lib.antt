@@ -7,5 +7,7 @@ pub mod FollowLaws
 pub mod StepFollows
 pub mod Condition3Holds
 pub mod AnswerLaws
+pub mod EntryRefusals
+pub mod AfterPowerOn
 pub mod Lossless
 pub mod UntouchedLaws

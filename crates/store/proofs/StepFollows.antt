@@ -268,13 +268,13 @@ module _ (s : Store) (v : StoreValid s) where
 
   -- a decision performed on the bytes is the decision performed on the machine
   module _ (p : ℕ) (port : p < portCount) (k : Decision) (kv : DecisionValid (c .device) k) where
-    abbrev decided : Volume
+    abbrev pub decided : Volume
     decided = record { device = k .device; disk = s .disk }
 
     abbrev after : Volume
     after = written (k .effect) decided
 
-    abbrev answer : List ℕ
+    abbrev pub answer : List ℕ
     answer = replyBytes (k .registers) (sent (k .effect) decided)
 
     abbrev next : Contents
@@ -287,7 +287,7 @@ module _ (s : Store) (v : StoreValid s) where
     unfolding machineOf
     served-valid = serve-valid p k M m-valid kv
 
-    answer-sized : Sized mailboxSize answer
+    pub answer-sized : Sized mailboxSize answer
     unfolding machineOf
     answer-sized =
         let w = sent-valid (k .effect) decided (decided-volume p k M m-valid kv) (kv .effectValid) in

@@ -6,6 +6,7 @@ use native.Mathlib.Omega.{arith}
 use mathlib.Core.List.{List, [], _∷_}
 use lib.ListN.{length, getD}
 use lib.Seq.{sets}
+use borrow.Author.Tests.{eqb-true, ltb-true}
 use Rattle.wire.specs.Choice.{firstFailed}
 use Rattle.wire.specs.Parts.{part, zeros}
 use Rattle.wire.proofs.ChoiceLaws.{all-pass, pass-all}
@@ -21,7 +22,10 @@ use Rattle.store.specs.Record.{decode}
 use Rattle.store.specs.Store.{Store, slotBytes}
 use Rattle.store.specs.Entries.{withFillSector}
 use Rattle.store.specs.OnStore.{store, onStore}
+use Rattle.model.proofs.ValidRequest.{decide-valid}
 use Rattle.store.proofs.EntryLaws.{storeChecks, doneStore, on-done}
+use Rattle.store.proofs.FollowLaws.{StoreValid, contents-valid, slot-sized}
+use Rattle.store.proofs.StepFollows.{answer-sized}
 
 -- i is no byte of slot p
 abbrev pub OutsideSlot : ℕ → ℕ → Type 0
@@ -32,9 +36,11 @@ slot-stored a x p i e (inl h) = getD-sets-before x a (slotPlace p) i h
 slot-stored a x p i e (inr h) = getD-sets-after x a (slotPlace p) i (omega arith)
 
 -- take: the other slots and the fill sector stay
-pub take-leaves : (p : ℕ) (m : List ℕ) (s : Store) (i : ℕ) → firstFailed (storeChecks (take p m) s) ≡ 0 → length m ≡ mailboxSize → OutsideSlot p i
+pub take-leaves : (p : ℕ) (m : List ℕ) (s : Store) (i : ℕ) → firstFailed (storeChecks (take p m) s) ≡ 0 → OutsideSlot p i
     → getD (onStore (take p m) s .state .privateArea) i 0 ≡ getD (s .privateArea) i 0
-take-leaves p m s i e size out = rw (on-done (take p m) s e) (slot-stored (s .privateArea) m p i size out)
+take-leaves p m s i e out =
+    let size = eqb-true (length m) mailboxSize (all-pass 8 (storeChecks (take p m) s) (omega arith) e .1 .0) in
+    rw (on-done (take p m) s e) (slot-stored (s .privateArea) m p i size out)
 
 -- give, work, the owner steps and save: the whole private area stays
 pub record PrivateKept (x : Step) (s : Store) : Type 0 where
@@ -93,21 +99,27 @@ fill-before (readLba lba) b i h = refl
 fill-before (writeLba lba sector) b i h = refl
 fill-before (beginFill first end sector) b i h = getD-sets-before sector b fillPlace i h
 
-module _ (x : Serving) (s : Store) (passed : firstFailed (storeChecks (serve x) s) ≡ 0) where
-  abbrev decided : Decision
-  decided = decide (x .port) (slotBytes (x .port) (s .privateArea)) (decode (s .recordArea) .device)
+module _ (x : Serving) (s : Store) (v : StoreValid s) (passed : firstFailed (storeChecks (serve x) s) ≡ 0) where
+  abbrev decision : Decision
+  decision = decide (x .port) (slotBytes (x .port) (s .privateArea)) (decode (s .recordArea) .device)
 
-  abbrev answer : List ℕ
-  answer = replyBytes (decided .registers) (sent (decided .effect) (record { device = decided .device; disk = s .disk }))
+  abbrev reply : List ℕ
+  reply = replyBytes (decision .registers) (sent (decision .effect) (record { device = decision .device; disk = s .disk }))
 
-  pub serve-leaves-slots : (i : ℕ) → length answer ≡ slotSize → i < fillPlace → OutsideSlot (x .port) i
-      → getD (onStore (serve x) s .state .privateArea) i 0 ≡ getD (s .privateArea) i 0
-  serve-leaves-slots i size h out =
+  reply-size : length reply ≡ slotSize
+  reply-size =
+      let port = ltb-true (x .port) portCount (all-pass 8 (storeChecks (serve x) s) (omega arith) passed .1 .1 .1 .0) in
+      let valid =
+      decide-valid (x .port) (slotBytes (x .port) (s .privateArea)) (decode (s .recordArea) .device) (contents-valid s v .device)
+      (slot-sized (s .privateArea) (x .port) (v .private) port) in
+      answer-sized s v (x .port) port decision valid .size
+
+  pub serve-leaves-slots : (i : ℕ) → i < fillPlace → OutsideSlot (x .port) i → getD (onStore (serve x) s .state .privateArea) i 0 ≡ getD (s .privateArea) i 0
+  serve-leaves-slots i h out =
       rw (on-done (serve x) s passed)
-      (fill-before (decided .effect) (sets (s .privateArea) (slotPlace (x .port)) answer) i h ∙ slot-stored (s .privateArea) answer (x .port) i size out)
+      (fill-before (decision .effect) (sets (s .privateArea) (slotPlace (x .port)) reply) i h ∙ slot-stored (s .privateArea) reply (x .port) i reply-size out)
 
-  pub serve-leaves-sector : (i : ℕ) → length answer ≡ slotSize → (BeginsFill (decided .effect) → ⊥) → OutsideSlot (x .port) i
-      → getD (onStore (serve x) s .state .privateArea) i 0 ≡ getD (s .privateArea) i 0
-  serve-leaves-sector i size none out =
-      rw (on-done (serve x) s passed, fill-left (decided .effect) (sets (s .privateArea) (slotPlace (x .port)) answer) none)
-      (slot-stored (s .privateArea) answer (x .port) i size out)
+  pub serve-leaves-sector : (i : ℕ) → (BeginsFill (decision .effect) → ⊥) → OutsideSlot (x .port) i → getD (onStore (serve x) s .state .privateArea) i 0 ≡ getD (s .privateArea) i 0
+  serve-leaves-sector i none out =
+      rw (on-done (serve x) s passed, fill-left (decision .effect) (sets (s .privateArea) (slotPlace (x .port)) reply) none)
+      (slot-stored (s .privateArea) reply (x .port) i reply-size out)

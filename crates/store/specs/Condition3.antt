@@ -7,7 +7,7 @@ use Rattle.model.specs.Sizes.{sectorSize}
 use Rattle.model.specs.Machine.{Machine}
 use Rattle.model.specs.Step.{Step, Outcome, poweredOn, firstAnswer, step, trace}
 use Rattle.store.specs.Store.{Store, machineOf}
-use Rattle.store.specs.Entries.{TakeAfter, powerOnBytes}
+use Rattle.store.specs.Entries.{powerOnBytes}
 use Rattle.store.specs.OnStore.{store, onStore}
 
 -- what is left and seen of a step on the bytes, read as a machine

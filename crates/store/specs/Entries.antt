@@ -1,5 +1,5 @@
--- The ten entries: what each answers, and every byte of the buffers that it is lent afterwards.
--- An entry whose checks fail gives the number of the first and leaves all of them as they were.
+-- The ten entries: what each answers, and every byte afterwards of the buffers that it may write. The other buffers are
+-- lent to be read only. An entry whose checks fail gives the number of the first and leaves all as they were.
 use mathlib.Core.Bool.{Bool, true, false}
 use Prim.Native.Nat.{ℕ, _+_, _*_, _/_}
 use mathlib.Core.List.{List, [], _∷_, _++_}
@@ -224,17 +224,22 @@ saveBytes r image used =
 abbrev pub powerOnChecks : List ℕ → List ℕ → List ℕ → List ℕ → ℕ → List Check
 powerOnChecks r a disk image used = ofSize recordSize r ∷ ofSize privateSize a ∷ diskChecks disk image used
 
+pub record PowerOnAfter : Type 0 where
+  pub answer : ℕ
+  pub recordArea : List ℕ
+  pub privateArea : List ℕ
+
 -- "slots empty"
 abbrev pub poweredContents : List ℕ → List ℕ → ℕ → Contents
 poweredContents disk image used =
     record { device = powerOn (restored (length disk / sectorSize) image used); stages = replicate portCount empty }
 
 -- "private area all zeros"
-abbrev pub powerOnDone : List ℕ → List ℕ → ℕ → TakeAfter
+abbrev pub powerOnDone : List ℕ → List ℕ → ℕ → PowerOnAfter
 powerOnDone disk image used =
     record { answer = done; recordArea = encode (poweredContents disk image used); privateArea = zeros privateSize }
 
-unfoldable pub powerOnBytes : List ℕ → List ℕ → List ℕ → List ℕ → ℕ → TakeAfter
+unfoldable pub powerOnBytes : List ℕ → List ℕ → List ℕ → List ℕ → ℕ → PowerOnAfter
 powerOnBytes r a disk image used =
     let n = firstFailed (powerOnChecks r a disk image used) in
     ifPassed n (powerOnDone disk image used) (record { answer = n; recordArea = r; privateArea = a })

@@ -1,4 +1,4 @@
--- Soundness as tests on the record's bytes in place, with no second copy of it: what the code does.
+-- Soundness as tests on the record's bytes in place, with no second copy of it. They say the same as `sound` (proofs/InPlaceLaws.antt).
 use mathlib.Core.Bool.{Bool, true, false, _&&_, _||_}
 use Prim.Native.Nat.{ℕ, _+_}
 use mathlib.Core.List.{List, [], _∷_}

@@ -1,0 +1,54 @@
+-- What holds of every list of steps after a power-on that answers 0, beside condition 3.
+use mathlib.Core.Path.{_≡_, refl, sym, ap, _∙_}
+use Prim.Native.Nat.{ℕ, _<_}
+use native.Mathlib.Omega.{arith}
+use mathlib.Core.List.{List, [], _∷_}
+use lib.ListN.{length}
+use borrow.Author.Tests.{eqb-true, ltb-true}
+use Rattle.wire.specs.Choice.{firstFailed}
+use Rattle.wire.specs.Bytes.{Bytes}
+use Rattle.wire.proofs.ChoiceLaws.{all-pass}
+use Rattle.model.specs.Sizes.{portCount, mailboxSize}
+use Rattle.model.specs.Machine.{Machine, request}
+use Rattle.model.specs.Step.{Step, take, checks, step}
+use Rattle.model.specs.Valid.{Fed}
+use Rattle.model.proofs.StepLaws.{step-done, answers-numbered, port-same}
+use Rattle.model.proofs.TakenLaws.{Each, LeavesRequest}
+use Rattle.store.specs.Store.{Store, machineOf}
+use Rattle.store.specs.Entries.{powerOnBytes}
+use Rattle.store.specs.OnStore.{onStore}
+use Rattle.store.specs.Condition3.{started}
+use Rattle.store.proofs.FollowLaws.{StoreValid}
+use Rattle.store.proofs.StepFollows.{follows}
+use Rattle.store.proofs.Condition3Holds.{started-valid}
+use Rattle.store.proofs.AnswerLaws.{ListAnswersRight, list-answers, storeAfter, entry-answer, request-kept, step-answer}
+
+-- the bytes stay valid along a list
+pub list-valid : (xs : List Step) (s : Store) → Each Fed xs → StoreValid s → StoreValid (storeAfter xs s)
+list-valid [] s fed v = v
+list-valid (x ∷ xs) s fed v = list-valid xs (onStore x s .state) (fed .1) (follows x s (fed .0) v .valid)
+
+module _ (r a disk image : List ℕ) (used : ℕ) (answers : powerOnBytes r a disk image used .answer ≡ 0) (diskBytes : Bytes disk) (imageBytes : Bytes image) where
+  abbrev start : Store
+  start = started r a disk image used
+
+  start-valid : StoreValid start
+  start-valid = started-valid r a disk image used answers diskBytes imageBytes
+
+  -- THEOREM: after a power-on that answers 0, the bytes are valid after every list of steps: the record is sound, and so on.
+  pub valid-after : (xs : List Step) → Each Fed xs → StoreValid (storeAfter xs start)
+  valid-after xs fed = list-valid xs start fed start-valid
+
+  -- THEOREM: no step of a list after it answers 4, and 2 only for a mailbox's length or a used length.
+  pub answers-after : (xs : List Step) → Each Fed xs → ListAnswersRight xs start
+  answers-after xs fed = list-answers xs start fed start-valid
+
+-- THEOREM: after a take that answers 0, the port's request is the mailbox at that taking, until it is served or power comes on.
+pub request-as-taken : (p : ℕ) (m : List ℕ) (xs : List Step) (s : Store) → Bytes m → Each Fed xs → StoreValid s → onStore (take p m) s .seen .answer ≡ 0
+    → Each (LeavesRequest p) xs → machineOf (storeAfter xs (onStore (take p m) s .state)) .ports p ≡ request m
+request-as-taken p m xs s b fed v taken leaves =
+    let f = follows (take p m) s b v in
+    let done = sym (step-answer (take p m) s b v) ∙ taken in
+    request-kept p m xs (onStore (take p m) s .state) fed (f .valid)
+    (ap (λ (M : Machine). M .ports p) (f .same) ∙ rw (step-done (take p m) (machineOf s) done) (port-same p (request m) (machineOf s .ports)))
+    leaves

@@ -1,0 +1,130 @@
+-- The answer table at the entries, in numbers: an entry that passes the checks before and fails this one has this answer.
+use mathlib.Core.Path.{_≡_, refl, sym, ap, _∙_}
+use mathlib.Core.Bool.{Bool, true, false, _&&_}
+use Prim.Native.Nat.{ℕ, zero, suc, _*_, _≤_, _<_}
+use native.Mathlib.Omega.{arith}
+use mathlib.Core.List.{List, [], _∷_}
+use lib.ListN.{length}
+use lib.Dec.{eqb, leb, ltb}
+use borrow.Author.Tests.{eqb-true, eq-eqb, ne-eqb, lt-ltb, le-ltb, lt-leb, le-leb}
+use Rattle.wire.specs.Choice.{firstFailed}
+use Rattle.model.specs.Step.{Step, Serving, take, serve, give, work, lock, unlock, setVisible, sample, save, powerOn}
+use Rattle.store.specs.Record.{Stage, empty, held, answered, decode}
+use Rattle.store.specs.Sound.{sound}
+use Rattle.store.specs.Store.{Store, stageFor}
+use Rattle.store.specs.Entries.{isEmpty, isHeld, isAnswered}
+use Rattle.store.specs.OnStore.{onStore}
+use Rattle.store.proofs.EntryLaws.{storeChecks}
+use Rattle.store.proofs.SoundLaws.{sound-parts}
+use Rattle.store.proofs.AnswerLaws.{entry-answer}
+
+abbrev pub answerOf : Step → Store → ℕ
+answerOf x s = onStore x s .seen .answer
+
+-- ---- 4: "device record unsound"
+
+-- "a record run of another size is .. 4 elsewhere"
+pub other-size-unsound : (r : List ℕ) → (length r ≡ 1024 → ⊥) → sound r ≡ false
+other-size-unsound r ne = go (sound r) refl
+  where
+    go : (b : Bool) → sound r ≡ b → sound r ≡ false
+    go true e = absurd (ne (sound-parts r e .size))
+    go false e = e
+
+-- every entry but power-on
+abbrev pub JudgesRecord : Step → Type 0
+JudgesRecord (take p m) = Unit {0}
+JudgesRecord (serve x) = Unit {0}
+JudgesRecord (give p m) = Unit {0}
+JudgesRecord (work n) = Unit {0}
+JudgesRecord lock = Unit {0}
+JudgesRecord unlock = Unit {0}
+JudgesRecord (setVisible v) = Unit {0}
+JudgesRecord (sample reading) = Unit {0}
+JudgesRecord (save image used) = Unit {0}
+JudgesRecord (powerOn image used) = ⊥
+
+pub unsound-record : (x : Step) (s : Store) → JudgesRecord x → sound (s .recordArea) ≡ false → answerOf x s ≡ 4
+unsound-record (take p m) s j e = entry-answer (take p m) s ∙ rw e
+unsound-record (serve x) s j e = entry-answer (serve x) s ∙ rw e
+unsound-record (give p m) s j e = entry-answer (give p m) s ∙ rw e
+unsound-record (work n) s j e = entry-answer (work n) s ∙ rw e
+unsound-record lock s j e = entry-answer lock s ∙ rw e
+unsound-record unlock s j e = entry-answer unlock s ∙ rw e
+unsound-record (setVisible v) s j e = entry-answer (setVisible v) s ∙ rw e
+unsound-record (sample reading) s j e = entry-answer (sample reading) s ∙ rw e
+unsound-record (save image used) s j e = entry-answer (save image used) s ∙ rw e
+unsound-record (powerOn image used) s j e = absurd j
+
+-- ---- with a sound record
+
+module _ (s : Store) (isSound : sound (s .recordArea) ≡ true) where
+  -- 2: a mailbox of another length than 528
+  pub take-mailbox : (p : ℕ) (m : List ℕ) → (length m ≡ 528 → ⊥) → answerOf (take p m) s ≡ 2
+  take-mailbox p m ne = entry-answer (take p m) s ∙ rw (isSound, ne-eqb (length m) 528 ne)
+
+  pub give-mailbox : (p : ℕ) (m : List ℕ) → (length m ≡ 528 → ⊥) → answerOf (give p m) s ≡ 2
+  give-mailbox p m ne = entry-answer (give p m) s ∙ rw (isSound, ne-eqb (length m) 528 ne)
+
+  -- 2: a private area of another length than 2,624
+  module _ (other : length (s .privateArea) ≡ 2624 → ⊥) where
+    pub take-private : (p : ℕ) (m : List ℕ) → length m ≡ 528 → answerOf (take p m) s ≡ 2
+    take-private p m e = entry-answer (take p m) s ∙ rw (isSound, eq-eqb (length m) 528 e, ne-eqb (length (s .privateArea)) 2624 other)
+
+    pub serve-private : (x : Serving) → answerOf (serve x) s ≡ 2
+    serve-private x = entry-answer (serve x) s ∙ rw (isSound, ne-eqb (length (s .privateArea)) 2624 other)
+
+    pub give-private : (p : ℕ) (m : List ℕ) → length m ≡ 528 → answerOf (give p m) s ≡ 2
+    give-private p m e = entry-answer (give p m) s ∙ rw (isSound, eq-eqb (length m) 528 e, ne-eqb (length (s .privateArea)) 2624 other)
+
+    pub work-private : (n : ℕ) → answerOf (work n) s ≡ 2
+    work-private n = entry-answer (work n) s ∙ rw (isSound, ne-eqb (length (s .privateArea)) 2624 other)
+
+  module _ (private : length (s .privateArea) ≡ 2624) where
+    -- 2: "the disk isn't N sectors"
+    module _ (other : length (s .disk) ≡ 512 * decode (s .recordArea) .device .native → ⊥) where
+      pub serve-disk : (x : Serving) → answerOf (serve x) s ≡ 2
+      serve-disk x = entry-answer (serve x) s ∙ rw (isSound, eq-eqb (length (s .privateArea)) 2624 private, ne-eqb (length (s .disk)) (512 * decode (s .recordArea) .device .native) other)
+
+      pub work-disk : (n : ℕ) → answerOf (work n) s ≡ 2
+      work-disk n = entry-answer (work n) s ∙ rw (isSound, eq-eqb (length (s .privateArea)) 2624 private, ne-eqb (length (s .disk)) (512 * decode (s .recordArea) .device .native) other)
+
+    -- 1: "port above 3"; 3: "slot not in the stage the step needs"
+    module _ (p : ℕ) (m : List ℕ) (mailbox : length m ≡ 528) where
+      pub take-port : 4 ≤ p → answerOf (take p m) s ≡ 1
+      take-port h = entry-answer (take p m) s ∙ rw (isSound, eq-eqb (length m) 528 mailbox, eq-eqb (length (s .privateArea)) 2624 private, le-ltb p 4 h)
+
+      pub take-stage : p < 4 → isEmpty (stageFor p (decode (s .recordArea))) ≡ false → answerOf (take p m) s ≡ 3
+      take-stage h k = entry-answer (take p m) s ∙ rw (isSound, eq-eqb (length m) 528 mailbox, eq-eqb (length (s .privateArea)) 2624 private, lt-ltb p 4 h, k)
+
+      pub give-port : 4 ≤ p → answerOf (give p m) s ≡ 1
+      give-port h = entry-answer (give p m) s ∙ rw (isSound, eq-eqb (length m) 528 mailbox, eq-eqb (length (s .privateArea)) 2624 private, le-ltb p 4 h)
+
+      pub give-stage : p < 4 → isAnswered (stageFor p (decode (s .recordArea))) ≡ false → answerOf (give p m) s ≡ 3
+      give-stage h k = entry-answer (give p m) s ∙ rw (isSound, eq-eqb (length m) 528 mailbox, eq-eqb (length (s .privateArea)) 2624 private, lt-ltb p 4 h, k)
+
+    module _ (x : Serving) (whole : length (s .disk) ≡ 512 * decode (s .recordArea) .device .native) where
+      pub serve-port : 4 ≤ x .port → answerOf (serve x) s ≡ 1
+      serve-port h =
+          entry-answer (serve x) s
+          ∙ rw (isSound, eq-eqb (length (s .privateArea)) 2624 private, eq-eqb (length (s .disk)) (512 * decode (s .recordArea) .device .native) whole, le-ltb (x .port) 4 h)
+
+      pub serve-stage : x .port < 4 → isHeld (stageFor (x .port) (decode (s .recordArea))) ≡ false → answerOf (serve x) s ≡ 3
+      serve-stage h k =
+          entry-answer (serve x) s
+          ∙ rw (isSound, eq-eqb (length (s .privateArea)) 2624 private, eq-eqb (length (s .disk)) (512 * decode (s .recordArea) .device .native) whole, lt-ltb (x .port) 4 h, k)
+
+  -- 5: "V asked is 0 or above N"
+  pub visible-zero : answerOf (setVisible 0) s ≡ 5
+  visible-zero = entry-answer (setVisible 0) s ∙ rw isSound
+
+  pub visible-above : (v : ℕ) → decode (s .recordArea) .device .native < v → answerOf (setVisible v) s ≡ 5
+  visible-above v h = entry-answer (setVisible v) s ∙ rw (isSound, le-leb 1 v (omega arith), lt-leb v (decode (s .recordArea) .device .native) h)
+
+-- ---- power-on: "a record run of another size is 2 there"
+
+pub on-record : (image : List ℕ) (used : ℕ) (s : Store) → (length (s .recordArea) ≡ 1024 → ⊥) → answerOf (powerOn image used) s ≡ 2
+on-record image used s ne = entry-answer (powerOn image used) s ∙ rw (ne-eqb (length (s .recordArea)) 1024 ne)
+
+pub on-private : (image : List ℕ) (used : ℕ) (s : Store) → length (s .recordArea) ≡ 1024 → (length (s .privateArea) ≡ 2624 → ⊥) → answerOf (powerOn image used) s ≡ 2
+on-private image used s e ne = entry-answer (powerOn image used) s ∙ rw (eq-eqb (length (s .recordArea)) 1024 e, ne-eqb (length (s .privateArea)) 2624 ne)
