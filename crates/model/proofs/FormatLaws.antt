@@ -198,7 +198,7 @@ reply-split : (r : Registers) (s : List ℕ)
 unfolding replyBytes padded
 reply-split r s = append-assoc (registersBytes r) s (zeros (mailboxSize - length (registersBytes r ++ s)))
 
-length-registers : (r : Registers) → length (registersBytes r) ≡ registersSize
+pub length-registers : (r : Registers) → length (registersBytes r) ≡ registersSize
 unfolding registersBytes
 length-registers r = length-form registersSize (registersFields r)
 

@@ -28,8 +28,9 @@ use Rattle.store.specs.Areas.{recordSize, headSize}
 use Rattle.store.specs.Record.{Stage, empty, held, answered, Contents, stageNumber, fillKind, fillFirst, fillNext, fillEnd, transferKind, transferFirst, transferEnd, sizeFields, commandFields, settingsFields, thermalFields, fillFields, slotAt, slotFields, slotOf, slotsFields, headFields, encode, stageOf, fillOf, transferOf, flagOf, stageAt, transferAt, decode}
 use Rattle.store.specs.Sound.{deviceSound, sound}
 use Rattle.store.specs.InPlace.{spareRuns, zeroRuns, flagsNamed, fillNamed, slotNamed, tableFixed, soundInPlace}
-use Rattle.store.proofs.RecordLaws.{ContentsFit, valid-fits, slot, slots, group-reads, slot-reads, table-says, table-part}
-use Rattle.store.proofs.SoundLaws.{SoundParts, sound-parts, parts-sound, sound-valid}
+use Rattle.store.proofs.RecordLaws.{ContentsFit, valid-fits, length-encode, slot, slots, group-reads, slot-reads, table-part}
+use Rattle.store.proofs.TableInPlace.{implied, table-is, table-fixed}
+use Rattle.store.proofs.SoundLaws.{sound-parts, parts-sound, sound-valid}
 
 -- ---- the spare bytes are those that no field takes
 
@@ -50,10 +51,6 @@ outside-spare : below headSize (λ i. not (outside headPlaces i) || inRuns spare
 unfolding decode
 outside-spare = refl
 
-implied : (a b : Bool) → (not a || b) ≡ true → a ≡ true → b ≡ true
-implied true b h e = h
-implied false b h e = absurd (let z : _≡_ {A = ℕ} 0 1 = cc in omega arith)
-
 outside-is-spare : (i : ℕ) → i < headSize → outside headPlaces i ≡ true → inRuns spareRuns i ≡ true
 outside-is-spare i h =
     implied (outside headPlaces i) (inRuns spareRuns i) (below-all headSize (λ j. not (outside headPlaces j) || inRuns spareRuns j) outside-spare i h)
@@ -61,16 +58,6 @@ outside-is-spare i h =
 spare-is-outside : (i : ℕ) → i < headSize → inRuns spareRuns i ≡ true → outside headPlaces i ≡ true
 spare-is-outside i h =
     implied (inRuns spareRuns i) (outside headPlaces i) (below-all headSize (λ j. not (inRuns spareRuns j) || outside headPlaces j) spare-outside i h)
-
--- in the table's head the bytes 10 to 29 are in no field
-abbrev tablePlaces : List Field
-tablePlaces = tableFields 0 0
-
-table-gap : below tableHeadSize (λ i. not (outside tablePlaces i) || (leb 10 i && ltb i 30)) ≡ true
-table-gap = refl
-
-gap-outside : below tableHeadSize (λ i. not (leb 10 i && ltb i 30) || outside tablePlaces i) ≡ true
-gap-outside = refl
 
 -- a byte of a run that is all zeros
 run-zero : (runs : List (ℕ × ℕ)) (r : List ℕ) (i : ℕ) → zeroRuns runs r ≡ true → inRuns runs i ≡ true → getD r i 0 ≡ 0
@@ -92,7 +79,7 @@ run-zero (x ∷ xs) r i h e =
     go false q e rest = rest e
 
 -- every run ends within a bound
-abbrev RunsWithin : ℕ → List (ℕ × ℕ) → Type 0
+abbrev pub RunsWithin : ℕ → List (ℕ × ℕ) → Type 0
 RunsWithin n [] = Unit {0}
 RunsWithin n (x ∷ xs) = (x .0 + x .1 ≤ n) × RunsWithin n xs
 
@@ -205,6 +192,22 @@ transfer-test (fillData first end) = refl
 
 -- ---- from the tests to the record
 
+-- every byte of the first half that no field takes is spare, whatever the fields hold
+pub head-rest : (r : List ℕ) (c : Contents) → length r ≡ recordSize → zeroRuns spareRuns r ≡ true → (i : ℕ) → outside (headFields c) i ≡ true → getD (part r 0 headSize) i 0 ≡ 0
+unfolding decode
+head-rest r c size spare i out = go (decLt i headSize)
+  where
+    go : Dec (i < headSize) → getD (part r 0 headSize) i 0 ≡ 0
+    go (yes h) =
+        getD-part r 0 headSize i h
+        ∙ ap (λ (j : ℕ). getD r j 0) (omega arith)
+        ∙ run-zero spareRuns r i spare (outside-is-spare i h out)
+    go (no h) = List·getD-eq-default (part r 0 headSize) 0 (rw (length-part r 0 headSize (omega arith)) (omega arith))
+
+-- the second half
+pub table-half : (r : List ℕ) → length r ≡ recordSize → drop headSize r ≡ part r headSize sectorSize
+table-half r size = sym (take-all sectorSize (drop headSize r) (rw length-drop (omega arith)))
+
 module _ (r : List ℕ) (b : Bytes r) (size : length r ≡ recordSize) where
   abbrev c : Contents
   c = decode r
@@ -312,138 +315,28 @@ module _ (r : List ℕ) (b : Bytes r) (size : length r ≡ recordSize) where
       (reads-both (thermalFields (d .thermal)) fromFill head thermal-read
       (reads-both (fillFields (d .command .fill)) last head (fill-read fill) (slots-read slotsOk)))))
 
-  -- every byte of the first half that no field takes is spare
-  head-rest : zeroRuns spareRuns r ≡ true → (i : ℕ) → outside (headFields c) i ≡ true → getD head i 0 ≡ 0
-  unfolding decode
-  head-rest spare i out = go (decLt i headSize)
-    where
-      go : Dec (i < headSize) → getD head i 0 ≡ 0
-      go (yes h) =
-          getD-part r 0 headSize i h
-          ∙ ap (λ (j : ℕ). getD r j 0) (omega arith)
-          ∙ run-zero spareRuns r i spare (outside-is-spare i h out)
-      go (no h) = List·getD-eq-default head 0 (rw (length-part r 0 headSize (omega arith)) (omega arith))
-
   head-is : zeroRuns spareRuns r ≡ true → flagsNamed r ≡ true → fillNamed r ≡ true → slotsTest ≡ true → head ≡ form headSize (headFields c)
   head-is spare flags fill slotsOk =
-      form-unique headSize (headFields c) head (bytes-part r 0 headSize b) (length-part r 0 headSize (omega arith)) refl (head-read flags fill slotsOk) (head-rest spare)
-
-  -- ---- the table
-
-  abbrev tableHead : List ℕ
-  tableHead = part r headSize tableHeadSize
-
-  behind : (k at : ℕ) → at + k ≤ tableHeadSize → get k tableHead at ≡ get k r (headSize + at)
-  behind k at h = get-part k r headSize tableHeadSize at h
-
-  abbrev fixedTests : Type 0
-  fixedTests = (get 4 r headSize ≡ 0x00010002) × (get 4 r (headSize + 6) ≡ 0xF605463C) × (allZero (part r (headSize + 10) 20) ≡ true) × (get 2 r (headSize + 30) ≡ historySize)
-
-  fixed-tests : tableFixed r ≡ true → fixedTests
-  unfolding tableFixed
-  fixed-tests h =
-      let w = and-three (eqb (get 4 r headSize) 0x00010002) (eqb (get 4 r (headSize + 6)) 0xF605463C) (allZero (part r (headSize + 10) 20) && eqb (get 2 r (headSize + 30)) historySize) h in (
-        eqb-true (get 4 r headSize) 0x00010002 (w .0),
-        eqb-true (get 4 r (headSize + 6)) 0xF605463C (w .1),
-        and-left (allZero (part r (headSize + 10) 20)) (eqb (get 2 r (headSize + 30)) historySize) (w .2),
-        eqb-true (get 2 r (headSize + 30)) historySize (and-right (allZero (part r (headSize + 10) 20)) (eqb (get 2 r (headSize + 30)) historySize) (w .2)),
-      )
-
-  -- two halves of a number
-  halves : (at lo hi : ℕ) → lo < 65536 → get 4 r at ≡ lo + 65536 * hi → (get 2 r at ≡ lo) × (get 2 r (at + 2) ≡ hi)
-  halves at lo hi h e =
-      let whole : get 2 r at + 256 ^ 2 * get 2 r (at + 2) ≡ lo + 65536 * hi = sym (get-join 2 2 r at) ∙ e in
-      let low = get-fits 2 r at b in
-      (omega arith, omega arith)
-
-  two-bytes : (at lo hi : ℕ) → lo < 256 → get 2 r at ≡ lo + 256 * hi → (get 1 r at ≡ lo) × (get 1 r (at + 1) ≡ hi)
-  two-bytes at lo hi h e =
-      let whole : get 1 r at + 256 ^ 1 * get 1 r (at + 1) ≡ lo + 256 * hi = sym (get-join 1 1 r at) ∙ e in
-      let low = get-fits 1 r at b in
-      (omega arith, omega arith)
-
-  abbrev interval : ℕ
-  interval = get 2 r (headSize + 4)
-
-  abbrev index : ℕ
-  index = get 2 r (headSize + 32)
-
-  table-read : tableFixed r ≡ true → Reads (tableFields interval index) tableHead
-  table-read h =
-      let w = fixed-tests h in
-      let versions = halves headSize 2 1 (omega arith) (w .0) in
-      let limits = halves (headSize + 6) 0x463C 0xF605 (omega arith) (w .1) in
-      let high = two-bytes (headSize + 6) 0x3C 0x46 (omega arith) (limits .0) in
-      let low = two-bytes (headSize + 8) 0x05 0xF6 (omega arith) (limits .1) in (
-        behind 2 0 (omega arith) ∙ versions .0,
-        (
-          behind 2 2 (omega arith) ∙ versions .1,
-          (
-            behind 2 4 (omega arith),
-            (
-              behind 1 6 (omega arith) ∙ high .0,
-              (
-                behind 1 7 (omega arith) ∙ high .1,
-                (
-                  behind 1 8 (omega arith) ∙ low .0,
-                  (
-                    behind 1 9 (omega arith) ∙ low .1,
-                    (
-                      behind 2 30 (omega arith) ∙ w .3,
-                      (behind 2 32 (omega arith), tt),
-                    ),
-                  ),
-                ),
-              ),
-            ),
-          ),
-        ),
-      )
-
-  table-rest : tableFixed r ≡ true → (i : ℕ) → outside (tableFields interval index) i ≡ true → getD tableHead i 0 ≡ 0
-  table-rest h i out = go (decLt i tableHeadSize)
-    where
-      gap : leb 10 i ≡ true → ltb i 30 ≡ true → getD r (headSize + i) 0 ≡ 0
-      gap p q =
-          let low = leb-true 10 i p in
-          let high = ltb-true i 30 q in
-          let place : headSize + 10 + (i - 10) ≡ headSize + i = omega arith in
-          ap (λ (j : ℕ). getD r j 0) (sym place)
-          ∙ sym (getD-part r (headSize + 10) 20 (i - 10) (omega arith))
-          ∙ all-zero-true (part r (headSize + 10) 20) (fixed-tests h .2) (i - 10)
-
-      go : Dec (i < tableHeadSize) → getD tableHead i 0 ≡ 0
-      go (yes k) =
-          let in-gap = implied (outside tablePlaces i) (leb 10 i && ltb i 30) (below-all tableHeadSize (λ j. not (outside tablePlaces j) || (leb 10 j && ltb j 30)) table-gap i k) out in
-          getD-part r headSize tableHeadSize i k ∙ gap (and-left (leb 10 i) (ltb i 30) in-gap) (and-right (leb 10 i) (ltb i 30) in-gap)
-      go (no k) = List·getD-eq-default tableHead 0 (rw (length-part r headSize tableHeadSize (omega arith)) (omega arith))
-
-  table-is : tableFixed r ≡ true → drop headSize r ≡ tableBytes interval index (part r (headSize + tableHeadSize) historySize)
-  unfolding tableBytes
-  table-is h =
-      let front = form-unique tableHeadSize (tableFields interval index) tableHead (bytes-part r headSize tableHeadSize b) (length-part r headSize tableHeadSize (omega arith)) refl (table-read h) (table-rest h) in
-      sym (take-all (tableHeadSize + historySize) (drop headSize r) (rw length-drop (omega arith)))
-      ∙ take-add tableHeadSize historySize (drop headSize r)
-      ∙ ap₂ (λ (x y : List ℕ). x ++ y) front (ap (take historySize) (drop-drop tableHeadSize headSize r))
+      form-unique headSize (headFields c) head (bytes-part r 0 headSize b) (length-part r 0 headSize (omega arith)) refl (head-read flags fill slotsOk) (head-rest r (decode r) size spare)
 
   -- the tests give the record back
-  again : zeroRuns spareRuns r ≡ true → flagsNamed r ≡ true → fillNamed r ≡ true → slotsTest ≡ true → tableFixed r ≡ true → encode c ≡ r
+  again : zeroRuns spareRuns r ≡ true → flagsNamed r ≡ true → fillNamed r ≡ true → slotsTest ≡ true → tableFixed r headSize ≡ true → encode c ≡ r
   unfolding encode decode
   again spare flags fill slotsOk fixed =
-      ap₂ (λ (x y : List ℕ). x ++ y) (sym (head-is spare flags fill slotsOk)) (sym (table-is fixed)) ∙ take-append-drop headSize r
+      ap₂ (λ (x y : List ℕ). x ++ y) (sym (head-is spare flags fill slotsOk)) (sym (table-half r size ∙ table-is r headSize b (omega arith) fixed)) ∙ take-append-drop headSize r
 
 -- ---- the tests, one by one
 
-record InPlace (r : List ℕ) : Type 0 where
-  size : length r ≡ recordSize
-  spare : zeroRuns spareRuns r ≡ true
-  flags : flagsNamed r ≡ true
-  fill : fillNamed r ≡ true
-  slotsOk : (slotNamed r 0 && slotNamed r 1 && (slotNamed r 2 && slotNamed r 3)) ≡ true
-  fixed : tableFixed r ≡ true
-  device : deviceSound (decode r .device) ≡ true
+pub record InPlace (r : List ℕ) : Type 0 where
+  pub size : length r ≡ recordSize
+  pub spare : zeroRuns spareRuns r ≡ true
+  pub flags : flagsNamed r ≡ true
+  pub fill : fillNamed r ≡ true
+  pub slotsOk : (slotNamed r 0 && slotNamed r 1 && (slotNamed r 2 && slotNamed r 3)) ≡ true
+  pub fixed : tableFixed r headSize ≡ true
+  pub device : deviceSound (decode r .device) ≡ true
 
-tests-hold : (r : List ℕ) → soundInPlace r ≡ true → InPlace r
+pub tests-hold : (r : List ℕ) → soundInPlace r ≡ true → InPlace r
 unfolding soundInPlace
 tests-hold r h =
     let a = eqb (length r) recordSize in
@@ -451,7 +344,7 @@ tests-hold r h =
     let c = flagsNamed r in
     let d = fillNamed r in
     let e = slotNamed r 0 && slotNamed r 1 && (slotNamed r 2 && slotNamed r 3) in
-    let w = and-three (a && b && c && d && e) (tableFixed r) (deviceSound (decode r .device)) h in
+    let w = and-three (a && b && c && d && e) (tableFixed r headSize) (deviceSound (decode r .device)) h in
     let u = and-three (a && b && c) d e (w .0) in
     let t = and-three a b c (u .0) in
     record { size = eqb-true (length r) recordSize (t .0); spare = t .1; flags = t .2; fill = u .1; slotsOk = u .2; fixed = w .1; device = w .2 }
@@ -462,10 +355,10 @@ hold-tests r t = rw (eq-eqb (length r) recordSize (t .size), t .spare, t .flags,
 
 -- ---- from a sound record to the tests
 
-module _ (r : List ℕ) (b : Bytes r) (p : SoundParts r) (fit : ContentsFit (decode r)) where
+module _ (r : List ℕ) (b : Bytes r) (same : encode (decode r) ≡ r) (fit : ContentsFit (decode r)) where
   -- what the record's contents say stands in it
   says : (fs : List Field) → Reads fs (encode (decode r)) → Reads fs r
-  says fs = subst (Reads fs) (p .again)
+  says fs = subst (Reads fs) same
 
   flag-named : (at : ℕ) (x : Bool) → get 1 r at ≡ bit x → leb (get 1 r at) 1 ≡ true
   flag-named at x e = rw e (le-leb (bit x) 1 (bit-small x))
@@ -513,49 +406,19 @@ module _ (r : List ℕ) (b : Bytes r) (p : SoundParts r) (fit : ContentsFit (dec
   unfolding encode decode
   spare-byte i e =
       let h = runs-within headSize spareRuns i (omega arith) e in
-      ap (λ (l : List ℕ). getD l i 0) (sym (p .again))
+      ap (λ (l : List ℕ). getD l i 0) (sym same)
       ∙ List·getD-append (form headSize (headFields (decode r))) _ 0 i (rw (length-form headSize (headFields (decode r))) h)
       ∙ form-outside headSize (headFields (decode r)) i (spare-is-outside i h e)
 
-  spare-holds : zeroRuns spareRuns r ≡ true
+  pub spare-holds : zeroRuns spareRuns r ≡ true
   spare-holds = zero-run spareRuns r spare-byte
 
-  abbrev tableOf : List ℕ
-  tableOf = let d = decode r .device in tableBytes (d .settings .logInterval .state) (d .thermal .index) (d .thermal .history)
-
-  half : part r headSize sectorSize ≡ tableOf
-  half = ap (λ (l : List ℕ). part l headSize sectorSize) (sym (p .again)) ∙ table-part (decode r) fit
-
-  tab : (k at : ℕ) → at + k ≤ sectorSize → get k r (headSize + at) ≡ get k tableOf at
-  tab k at h = sym (get-part k r headSize sectorSize at h) ∙ ap (λ (l : List ℕ). get k l at) half
-
-  gap-byte : (i : ℕ) → i < 20 → getD r (headSize + (10 + i)) 0 ≡ 0
-  gap-byte i h =
-      let outside-gap = implied (leb 10 (10 + i) && ltb (10 + i) 30) (outside tablePlaces (10 + i)) (below-all tableHeadSize (λ j. not (leb 10 j && ltb j 30) || outside tablePlaces j) gap-outside (10 + i) (omega arith)) in
-      sym (getD-part r headSize sectorSize (10 + i) (omega arith))
-      ∙ ap (λ (l : List ℕ). getD l (10 + i) 0) half
-      ∙ table-says (decode r) fit .zero (10 + i) (omega arith)
-      (outside-gap (and-both (leb 10 (10 + i)) (ltb (10 + i) 30) (le-leb 10 (10 + i) (omega arith)) (lt-ltb (10 + i) 30 (omega arith))))
-
-  gap-holds : allZero (part r (headSize + 10) 20) ≡ true
-  gap-holds =
-      zero-all-true (part r (headSize + 10) 20)
-      (λ i h.
-      let low : i < 20 = omega (arith, rw length-take at h) in
-      getD-part r (headSize + 10) 20 i low ∙ ap (λ (j : ℕ). getD r j 0) (shift i) ∙ gap-byte i low)
-    where
-      shift : (i : ℕ) → headSize + 10 + i ≡ headSize + (10 + i)
-      shift i = omega arith
-
-  fixed-holds : tableFixed r ≡ true
-  unfolding tableFixed
+  pub fixed-holds : tableFixed r headSize ≡ true
   fixed-holds =
-      let t = table-says (decode r) fit in
-      let versions : get 4 r headSize ≡ 0x00010002 = get-join 2 2 r headSize ∙ (λ j. (tab 2 0 (omega arith) ∙ t .format) j + 256 ^ 2 * (tab 2 2 (omega arith) ∙ t .period) j) in
-      let low : get 2 r (headSize + 6) ≡ 0x463C = get-join 1 1 r (headSize + 6) ∙ (λ j. (tab 1 6 (omega arith) ∙ t .limits .0) j + 256 ^ 1 * (tab 1 7 (omega arith) ∙ t .limits .1) j) in
-      let high : get 2 r (headSize + 8) ≡ 0xF605 = get-join 1 1 r (headSize + 8) ∙ (λ j. (tab 1 8 (omega arith) ∙ t .limits .2) j + 256 ^ 1 * (tab 1 9 (omega arith) ∙ t .limits .3) j) in
-      let limits : get 4 r (headSize + 6) ≡ 0xF605463C = get-join 2 2 r (headSize + 6) ∙ (λ j. low j + 256 ^ 2 * high j) in
-      rw (versions, limits, gap-holds, tab 2 30 (omega arith) ∙ t .sizeAt)
+      let d = decode r .device in
+      table-fixed r headSize (omega (arith, ap length (sym same) ∙ length-encode (decode r) fit)) (d .settings .logInterval .state) (d .thermal .index) (d .thermal .history)
+      (fit .interval) (fit .index) (fit .history)
+      (ap (λ (l : List ℕ). part l headSize sectorSize) (sym same) ∙ table-part (decode r) fit)
 
 -- THEOREM: soundness is these tests in place.
 pub sound-in-place : (r : List ℕ) → Bytes r → sound r ≡ soundInPlace r
@@ -568,11 +431,11 @@ sound-in-place r b = tests-same (sound r) (soundInPlace r) there back
         hold-tests r
         (record {
           size = p .size;
-          spare = spare-holds r b p fit;
-          flags = flags-hold r b p fit;
-          fill = fill-holds r b p fit;
-          slotsOk = slots-hold r b p fit;
-          fixed = fixed-holds r b p fit;
+          spare = spare-holds r b (p .again) fit;
+          flags = flags-hold r b (p .again) fit;
+          fill = fill-holds r b (p .again) fit;
+          slotsOk = slots-hold r b (p .again) fit;
+          fixed = fixed-holds r b (p .again) fit;
           device = p .tests;
         })
 
@@ -580,3 +443,14 @@ sound-in-place r b = tests-same (sound r) (soundInPlace r) there back
     back e =
         let t = tests-hold r e in
         parts-sound r (record { size = t .size; again = again r b (t .size) (t .spare) (t .flags) (t .fill) (t .slotsOk) (t .fixed); tests = t .device })
+
+pub sound-tests : (r : List ℕ) → Bytes r → sound r ≡ true → InPlace r
+sound-tests r b e = tests-hold r (sym (sound-in-place r b) ∙ e)
+
+-- the second half of a sound record is the table of what it says
+pub sound-table : (r : List ℕ) → Bytes r → sound r ≡ true
+    → part r headSize sectorSize ≡ (let d = decode r .device in tableBytes (d .settings .logInterval .state) (d .thermal .index) (d .thermal .history))
+unfolding decode
+sound-table r b e =
+    let t = sound-tests r b e in
+    table-is r headSize b (omega (arith, t .size)) (t .fixed)

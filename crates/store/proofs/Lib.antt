@@ -1,7 +1,9 @@
 -- Laws of the byte form, and the theorems, in reading order.
 pub mod RecordLaws
 pub mod SoundLaws
+pub mod TableInPlace
 pub mod InPlaceLaws
+pub mod WrittenLaws
 pub mod EntryLaws
 pub mod FollowLaws
 pub mod StepFollows

@@ -225,7 +225,7 @@ transfer-back table = refl
 transfer-back (fillData first end) = refl
 
 -- a list of four is its four elements
-four-back : {A : Type 0} (l : List A) (x : A) → length l ≡ 4 → getD l 0 x ∷ getD l 1 x ∷ getD l 2 x ∷ getD l 3 x ∷ [] ≡ l
+pub four-back : {A : Type 0} (l : List A) (x : A) → length l ≡ 4 → getD l 0 x ∷ getD l 1 x ∷ getD l 2 x ∷ getD l 3 x ∷ [] ≡ l
 four-back [] x e = absurd (omega arith)
 four-back (a ∷ []) x e = absurd (omega arith)
 four-back (a ∷ b ∷ []) x e = absurd (omega arith)

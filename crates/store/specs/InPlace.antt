@@ -34,12 +34,12 @@ slotNamed r i =
     leb (get 1 r (slotAt i)) 2
     && (eqb (get 1 r (slotAt i + 1)) 2 || (leb (get 1 r (slotAt i + 1)) 1 && eqb (get 8 r (slotAt i + 8)) 0 && eqb (get 8 r (slotAt i + 16)) 0))
 
--- the table's fixed bytes
-unfoldable pub tableFixed : List ℕ → Bool
-tableFixed r =
-    eqb (get 4 r headSize) 0x00010002
-    && eqb (get 4 r (headSize + 6)) 0xF605463C
-    && (allZero (part r (headSize + 10) 20) && eqb (get 2 r (headSize + 30)) historySize)
+-- the fixed bytes of a temperature table that stands at a place of a run
+unfoldable pub tableFixed : List ℕ → ℕ → Bool
+tableFixed run at =
+    eqb (get 4 run at) 0x00010002
+    && eqb (get 4 run (at + 6)) 0xF605463C
+    && (allZero (part run (at + 10) 20) && eqb (get 2 run (at + 30)) historySize)
 
 unfoldable pub soundInPlace : List ℕ → Bool
 soundInPlace r =
@@ -48,5 +48,5 @@ soundInPlace r =
     && flagsNamed r
     && fillNamed r
     && (slotNamed r 0 && slotNamed r 1 && (slotNamed r 2 && slotNamed r 3))
-    && tableFixed r
+    && tableFixed r headSize
     && deviceSound (decode r .device)

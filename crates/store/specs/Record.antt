@@ -111,6 +111,10 @@ headFields c =
     ++ (fillFields (d .command .fill)
     ++ slotsFields (c .stages) (d .command .pending)))))
 
+-- the two numbers of the second half that change: the temperature table's interval and index
+abbrev pub tableNumbers : ℕ → ℕ → List Field
+tableNumbers interval index = (headSize + 4, 2, interval) ∷ (headSize + 32, 2, index) ∷ []
+
 -- The second half is the temperature table: its interval is feature 3's state, its index and history are the device's.
 unfoldable pub encode : Contents → List ℕ
 encode c =

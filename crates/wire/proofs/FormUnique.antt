@@ -36,14 +36,20 @@ le-get (suc k) s at (suc j) b h =
     shift : (a j : ℕ) → suc a + j ≡ a + suc j
     shift a j = omega arith
 
--- one byte of a run in which a number is stored that is read from s at that place
-put-read : (w : ℕ) (s z : List ℕ) (at v i : ℕ) → Bytes s → get w s at ≡ v → at + w ≤ length z → at ≤ i → i < at + w
-    → getD (put w z at v) i 0 ≡ getD s i 0
+-- one byte of a number that is stored
+put-in : (w : ℕ) (z : List ℕ) (at v i : ℕ) → at + w ≤ length z → at ≤ i → i < at + w → getD (put w z at v) i 0 ≡ getD (le w v) (i - at) 0
 unfolding put
-put-read w s z at v i b e fits low high =
+put-in w z at v i fits low high =
     let place : at + (i - at) ≡ i = omega arith in
     ap (λ (j : ℕ). getD (sets z at (le w v)) j 0) (sym place)
     ∙ getD-sets-in (le w v) z at (i - at) (rw (length-le w v) (omega arith)) (rw (length-le w v) fits)
+
+-- .. and where the number is read from s at that place
+put-read : (w : ℕ) (s z : List ℕ) (at v i : ℕ) → Bytes s → get w s at ≡ v → at + w ≤ length z → at ≤ i → i < at + w
+    → getD (put w z at v) i 0 ≡ getD s i 0
+put-read w s z at v i b e fits low high =
+    let place : at + (i - at) ≡ i = omega arith in
+    put-in w z at v i fits low high
     ∙ ap (λ (x : ℕ). getD (le w x) (i - at) 0) (sym e)
     ∙ le-get w s at (i - at) b (omega arith)
     ∙ ap (λ (j : ℕ). getD s j 0) place
@@ -85,3 +91,40 @@ unfolding form
 form-unique n fs s b size o r rest =
     ext-getD 0 s (stores fs (zeros n)) (size ∙ sym (length-form n fs))
     (λ i h. stores-read fs 0 n s (zeros n) b o (rw (length-zeros n) (omega arith)) r (λ j out. rest j out ∙ sym (getD-zeros n j)) i)
+
+-- the same fields stored over two runs that agree at every other place
+pub stores-same : (fs : List Field) (from n : ℕ) (s t : List ℕ) → ordered from n fs ≡ true → n ≤ length s → length s ≡ length t
+    → ((i : ℕ) → outside fs i ≡ true → getD s i 0 ≡ getD t i 0) → stores fs s ≡ stores fs t
+stores-same [] from n s t o h e rest = ext-getD 0 s t e (λ i q. rest i refl)
+stores-same (f ∷ fs) from n s t o h e rest =
+    stores-same fs (f .0 + f .1) n (put (f .1) s (f .0) (f .2)) (put (f .1) t (f .0) (f .2)) o′ (rw (length-put (f .1) s (f .0) (f .2)) h)
+    (length-put (f .1) s (f .0) (f .2) ∙ e ∙ sym (length-put (f .1) t (f .0) (f .2))) next
+  where
+    o′ : ordered (f .0 + f .1) n fs ≡ true
+    o′ = and-right (leb from (f .0)) (ordered (f .0 + f .1) n fs) o
+
+    fits : f .0 + f .1 ≤ n
+    fits = ordered-end fs (f .0 + f .1) n o′
+
+    next : (i : ℕ) → outside fs i ≡ true → getD (put (f .1) s (f .0) (f .2)) i 0 ≡ getD (put (f .1) t (f .0) (f .2)) i 0
+    next i out = go (decLt i (f .0)) (decLt i (f .0 + f .1))
+      where
+        go : Dec (i < f .0) → Dec (i < f .0 + f .1) → getD (put (f .1) s (f .0) (f .2)) i 0 ≡ getD (put (f .1) t (f .0) (f .2)) i 0
+        go (yes p) q =
+            put-before (f .1) s (f .0) (f .2) i p
+            ∙ rest i (rw (lt-ltb i (f .0) p) out)
+            ∙ sym (put-before (f .1) t (f .0) (f .2) i p)
+        go (no p) (yes q) =
+            put-in (f .1) s (f .0) (f .2) i (omega (arith, fits)) (omega arith) q
+            ∙ sym (put-in (f .1) t (f .0) (f .2) i (omega (arith, fits, e)) (omega arith) q)
+        go (no p) (no q) =
+            put-after (f .1) s (f .0) (f .2) i (omega arith)
+            ∙ rest i (rw (le-ltb i (f .0) (omega arith), le-leb (f .0 + f .1) i (omega arith)) out)
+            ∙ sym (put-after (f .1) t (f .0) (f .2) i (omega arith))
+
+-- the fields stored over a run that is 0 at every other place are the form
+pub form-stored : (n : ℕ) (fs : List Field) (s : List ℕ) → length s ≡ n → ordered 0 n fs ≡ true
+    → ((i : ℕ) → outside fs i ≡ true → getD s i 0 ≡ 0) → stores fs s ≡ form n fs
+unfolding form
+form-stored n fs s size o rest =
+    stores-same fs 0 n s (zeros n) o (omega arith) (size ∙ sym (length-zeros n)) (λ i out. rest i out ∙ sym (getD-zeros n i))

@@ -12,7 +12,7 @@ use Rattle.wire.specs.Parts.{zeros}
 use Rattle.wire.specs.Layout.{Field, stores, form, ordered, Fit, Reads, outside}
 use Rattle.wire.proofs.ChoiceLaws.{and-left, and-right}
 use Rattle.wire.proofs.NumbersLaws.{get-put, get-append-left, get-sets-before, getD-sets-before, getD-sets-after, length-le, length-put}
-use Rattle.wire.proofs.PartsLaws.{length-zeros, getD-zeros}
+use Rattle.wire.proofs.PartsLaws.{length-zeros, getD-zeros, put-front}
 
 pub length-stores : (fs : List Field) (s : List ℕ) → length (stores fs s) ≡ length s
 length-stores [] s = refl
@@ -80,6 +80,19 @@ form-outside n fs i h = stores-outside fs (zeros n) i h ∙ getD-zeros n i
 pub fit-append : (fs gs : List Field) → Fit fs → Fit gs → Fit (fs ++ gs)
 fit-append [] gs f g = g
 fit-append (x ∷ fs) gs f g = (f .0, fit-append fs gs (f .1) g)
+
+pub stores-append : (fs gs : List Field) (s : List ℕ) → stores (fs ++ gs) s ≡ stores gs (stores fs s)
+stores-append [] gs s = refl
+stores-append (f ∷ fs) gs s = stores-append fs gs (put (f .1) s (f .0) (f .2))
+
+-- stores within the first of two runs
+pub stores-front : (fs : List Field) (from n : ℕ) (xs ys : List ℕ) → ordered from n fs ≡ true → n ≤ length xs → stores fs (xs ++ ys) ≡ stores fs xs ++ ys
+stores-front [] from n xs ys o h = refl
+stores-front (f ∷ fs) from n xs ys o h =
+    let o′ = and-right (leb from (f .0)) (ordered (f .0 + f .1) n fs) o in
+    let fits = ordered-end fs (f .0 + f .1) n o′ in
+    ap (stores fs) (put-front (f .1) xs ys (f .0) (f .2) (omega arith))
+    ∙ stores-front fs (f .0 + f .1) n (put (f .1) xs (f .0) (f .2)) ys o′ (rw (length-put (f .1) xs (f .0) (f .2)) h)
 
 pub reads-append : (fs gs : List Field) (s : List ℕ) → Reads (fs ++ gs) s → Reads fs s × Reads gs s
 reads-append [] gs s r = (tt, r)

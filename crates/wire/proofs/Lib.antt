@@ -5,4 +5,5 @@ pub mod PartsLaws
 pub mod LayoutLaws
 pub mod BytesLaws
 pub mod FormUnique
+pub mod WithinLaws
 pub mod RunLaws

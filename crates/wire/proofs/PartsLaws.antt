@@ -4,7 +4,7 @@ use Prim.Native.Nat.{ℕ, zero, suc, _+_, _-_, _*_, _≤_, _<_}
 use native.Mathlib.Nat.{suc-add, add-suc, zero-add, add-zero, mul-zero}
 use native.Mathlib.Omega.{arith}
 use mathlib.Core.List.{List, [], _∷_, _++_, append-assoc, append-nil}
-use lib.ListN.{length, getD, set, take, drop, replicate, length-append, length-take, length-drop, length-replicate}
+use lib.ListN.{length, getD, set, take, drop, replicate, length-append, length-take, length-drop, length-replicate, length-set}
 use lib.Seq.{take-nil, take-at, drop-at, length-take-le, take-all, drop-set-lt, take-set-le, take-set-lt, drop-set-add, take-take, drop-drop, getD-take, getD-drop, sets, sets-eq, length-sets, drop-append-add}
 use Rattle.wire.specs.Numbers.{le, get, put}
 use Rattle.wire.specs.Parts.{part, zeros, padded, repeated}
@@ -93,6 +93,35 @@ part-append-left xs ys n e = take-at xs ys n e
 
 pub part-append-right : (xs ys : List ℕ) (n m : ℕ) → length xs ≡ n → length ys ≡ m → part (xs ++ ys) n m ≡ ys
 part-append-right xs ys n m e f = rw (drop-at xs ys n e) (take-all m ys (omega arith))
+
+-- stores within the first of two runs, and within the second
+
+set-front : (xs ys : List ℕ) (i a : ℕ) → i < length xs → set (xs ++ ys) i a ≡ set xs i a ++ ys
+set-front [] ys i a h = absurd (omega arith)
+set-front (x ∷ xs) ys zero a h = refl
+set-front (x ∷ xs) ys (suc i) a h = ap (λ (l : List ℕ). x ∷ l) (set-front xs ys i a (omega arith))
+
+pub sets-front : (vs xs ys : List ℕ) (i : ℕ) → i + length vs ≤ length xs → sets (xs ++ ys) i vs ≡ sets xs i vs ++ ys
+sets-front [] xs ys i h = refl
+sets-front (a ∷ vs) xs ys i h =
+    ap (λ (l : List ℕ). sets l (suc i) vs) (set-front xs ys i a (omega arith))
+    ∙ sets-front vs (set xs i a) ys (suc i) (rw length-set (omega arith))
+
+set-behind : (xs ys : List ℕ) (i a : ℕ) → set (xs ++ ys) (length xs + i) a ≡ xs ++ set ys i a
+set-behind [] ys i a = rw (zero-add i)
+set-behind (x ∷ xs) ys i a = rw (suc-add (length xs) i) (ap (λ (l : List ℕ). x ∷ l) (set-behind xs ys i a))
+
+pub sets-behind : (vs xs ys : List ℕ) (i : ℕ) → sets (xs ++ ys) (length xs + i) vs ≡ xs ++ sets ys i vs
+sets-behind [] xs ys i = refl
+sets-behind (a ∷ vs) xs ys i = rw (set-behind xs ys i a, ← add-suc (length xs) i) (sets-behind vs xs (set ys i a) (suc i))
+
+pub put-front : (k : ℕ) (xs ys : List ℕ) (at v : ℕ) → at + k ≤ length xs → put k (xs ++ ys) at v ≡ put k xs at v ++ ys
+unfolding put
+put-front k xs ys at v h = sets-front (le k v) xs ys at (rw (length-le k v) h)
+
+pub put-behind : (k : ℕ) (xs ys : List ℕ) (n at v : ℕ) → length xs ≡ n → put k (xs ++ ys) (n + at) v ≡ xs ++ put k ys at v
+unfolding put
+put-behind k xs ys n at v e = ap (λ (m : ℕ). sets (xs ++ ys) (m + at) (le k v)) (sym e) ∙ sets-behind (le k v) xs ys at
 
 pub sets-append : (xs ys l : List ℕ) (i : ℕ) → sets l i (xs ++ ys) ≡ sets (sets l i xs) (i + length xs) ys
 sets-append [] ys l i = rw (add-zero i)

@@ -6,7 +6,7 @@ use native.Mathlib.Nat.{add-zero, mul-comm}
 use native.Mathlib.Numerals.{add-one}
 use native.Mathlib.Omega.{arith}
 use mathlib.Core.List.{List, [], _∷_, _++_}
-use lib.ListN.{length, getD, set, take, drop, length-drop, replicate-append-replicate}
+use lib.ListN.{length, getD, set, take, drop, length-drop, length-replicate, replicate, replicate-append-replicate}
 use lib.Seq.{sets, take-suc, getD-drop, ext-getD}
 use lib.Dec.{eqb}
 use Rattle.wire.specs.Numbers.{le, get, put}
@@ -14,7 +14,7 @@ use Rattle.wire.specs.Parts.{part, zeros, repeated}
 use Rattle.wire.specs.Bytes.{Bytes, same, allZero}
 use Rattle.wire.proofs.NumbersLaws.{length-le}
 use Rattle.wire.proofs.FormUnique.{le-get}
-use Rattle.wire.proofs.PartsLaws.{getD-part, length-part, length-zeros, length-repeated, repeated-snoc, sets-append}
+use Rattle.wire.proofs.PartsLaws.{getD-part, length-part, length-repeated, repeated-snoc, sets-append}
 
 part-snoc : (l : List ℕ) (b j : ℕ) → b + j < length l → part l b (suc j) ≡ part l b j ++ (getD l (b + j) 0 ∷ [])
 part-snoc l b j h =
@@ -29,10 +29,13 @@ pub copy-more : (d l : List ℕ) (at b j : ℕ) → b + j < length l → set (se
 copy-more d l at b j h =
     sets-snoc d (part l b j) at j (getD l (b + j) 0) (length-part l b j (omega arith)) ∙ ap (sets d at) (sym (part-snoc l b j h))
 
+pub replicate-more : (d : List ℕ) (at j a : ℕ) → set (sets d at (replicate j a)) (at + j) a ≡ sets d at (replicate (suc j) a)
+replicate-more d at j a =
+    sets-snoc d (replicate j a) at j a (length-replicate j a)
+    ∙ ap (sets d at) (replicate-append-replicate j 1 a ∙ ap (λ (n : ℕ). replicate n a) (add-one j))
+
 pub zero-more : (d : List ℕ) (at j : ℕ) → set (sets d at (zeros j)) (at + j) 0 ≡ sets d at (zeros (suc j))
-zero-more d at j =
-    sets-snoc d (zeros j) at j 0 (length-zeros j)
-    ∙ ap (sets d at) (replicate-append-replicate j 1 0 ∙ ap zeros (add-one j))
+zero-more d at j = replicate-more d at j 0
 
 pub repeat-more : (d p : List ℕ) (at size k : ℕ) → length p ≡ size → sets (sets d at (repeated k p)) (at + size * k) p ≡ sets d at (repeated (suc k) p)
 repeat-more d p at size k e =

@@ -16,6 +16,11 @@ abbrev pub stores : List Field → List ℕ → List ℕ
 stores [] s = s
 stores (f ∷ fs) s = stores fs (put (f .1) s (f .0) (f .2))
 
+-- the fields, each so many bytes further on
+abbrev pub placed : ℕ → List Field → List Field
+placed at [] = []
+placed at (f ∷ fs) = (at + f .0, f .1, f .2) ∷ placed at fs
+
 -- n bytes that hold the fields, and 0 everywhere else
 unfoldable pub form : ℕ → List Field → List ℕ
 form n fs = stores fs (zeros n)

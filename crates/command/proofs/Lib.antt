@@ -1,0 +1,5 @@
+-- In reading order.
+pub mod TestLaws
+pub mod SlotLaws
+pub mod KeyReadLaws
+pub mod ReplyLaws

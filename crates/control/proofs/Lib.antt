@@ -1,0 +1,4 @@
+-- Laws of structs that the functions change.
+pub mod InterruptLaw
+pub mod SlotLaws
+pub mod ThermalLaws

@@ -1,0 +1,19 @@
+use mathlib.Core.Path.{refl}
+use borrow.Author.Tests.{eq-eqb, ne-eqb}
+use Rattle.control.proofs.command.advanced.Statement.{statement}
+use Rattle.control.proofs.command.advanced.Tie as tie
+use Rattle.control.proofs.command.advanced.Reads as reads
+use Rattle.control.proofs.command.advanced.Lts as lts
+
+returns : tie.Need-returns
+returns c =
+    let a = c .before .before .before .args in
+    record { device = λ h. rw (eq-eqb (a .next) (a .end) (c .before .if1 .taken)); stages = refl; four = refl }
+
+returns-2 : tie.Need-returns-2
+returns-2 c =
+    let a = c .before .before .args in
+    record { device = λ h. rw (ne-eqb (a .next) (a .end) (c .if1 .left)); stages = refl; four = refl }
+
+pub advanced-spec : {M : Type 1} → statement M
+advanced-spec = tie.close (tie.spec returns returns-2)

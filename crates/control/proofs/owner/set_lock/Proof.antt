@@ -1,0 +1,21 @@
+use mathlib.Core.Path.{ap}
+use Rattle.model.specs.Update.{withLocked}
+use Rattle.model.specs.Owner.{setLock}
+use borrow.Author.Needs.{needs}
+use Rattle.control.proofs.owner.set_lock.Statement.{statement}
+use Rattle.control.proofs.owner.set_lock.Tie as tie
+use Rattle.control.proofs.owner.set_lock.Reads as reads
+use Rattle.control.proofs.owner.set_lock.Lts as lts
+use Rattle.control.proofs.command.interrupt.Reads as interrupt-reads
+
+interrupt-requires : tie.Need-interrupt-requires
+interrupt-requires c κs = search needs
+
+returns : tie.Need-returns
+unfolding setLock
+returns c =
+    let i = c .interrupt .ensures in
+    record { device = λ h. ap (withLocked (c .before .args .locked)) (i .device h); stages = i .stages; four = i .four }
+
+pub set-lock-spec : {M : Type 1} → statement M
+set-lock-spec = tie.close (tie.spec interrupt-requires returns)

@@ -1,0 +1,41 @@
+use mathlib.Core.Path.{sym}
+use borrow.Author.Tests.{eq-eqb, ne-eqb}
+use native.Mathlib.Omega.{arith}
+use Rattle.model.specs.Temperature.{newMaximum}
+use Rattle.control.proofs.ThermalLaws.{maximum-old, maximum-sample}
+use borrow.Author.Needs.{needs}
+use Rattle.control.proofs.thermal.new_maximum.Statement.{statement}
+use Rattle.control.proofs.thermal.new_maximum.Tie as tie
+use Rattle.control.proofs.thermal.new_maximum.Reads as reads
+use Rattle.control.proofs.thermal.new_maximum.Lts as lts
+use Rattle.control.proofs.thermal.shifted.Reads as shifted-reads
+
+returns : tie.Need-returns
+unfolding newMaximum
+returns c = rw (eq-eqb (c .before .args .sample) 128 (c .if1 .taken))
+
+returns-2 : tie.Need-returns-2
+unfolding newMaximum
+returns-2 c = rw (ne-eqb (c .before .before .args .sample) 128 (c .before .if1 .left), eq-eqb (c .before .before .args .old) 128 (c .if2 .taken))
+
+shifted-requires : tie.Need-shifted-requires
+shifted-requires c κs = search needs
+
+shifted-requires-2 : tie.Need-shifted-requires-2
+shifted-requires-2 c κs = search needs
+
+returns-3 : tie.Need-returns-3
+returns-3 c =
+    let s = c .before .before .before .before .before in
+    maximum-old (s .args .sample) (s .args .old) (c .before .before .before .before .if1 .left) (c .before .before .before .if2 .left) (s .fits .sample .fits) (s .fits .old .fits)
+    (rw (← c .before .before .shifted .ensures, ← c .before .shifted2 .ensures) (c .if3 .taken))
+
+returns-4 : tie.Need-returns-4
+returns-4 c =
+    let s = c .before .before .before .before .before in
+    maximum-sample (s .args .sample) (s .args .old) (c .before .before .before .before .if1 .left) (c .before .before .before .if2 .left) (s .fits .sample .fits) (s .fits .old .fits)
+    (rw (← c .before .before .shifted .ensures, ← c .before .shifted2 .ensures) (c .if3 .left))
+
+pub new-maximum-spec : {M : Type 1} → statement M
+new-maximum-spec =
+    tie.close (tie.spec returns returns-2 shifted-requires shifted-requires-2 returns-3 returns-4)

@@ -1,0 +1,51 @@
+use mathlib.Core.Path.{_≡_, sym, _∙_}
+use borrow.Author.Tests.{not-true, not-false}
+use native.Mathlib.Omega.{arith}
+use Rattle.control.proofs.ThermalLaws.{sampled-logged, sampled-counted}
+use borrow.Author.Needs.{needs}
+use Rattle.control.proofs.thermal.sampled_thermal.Statement.{statement}
+use Rattle.control.proofs.thermal.sampled_thermal.Tie as tie
+use Rattle.control.proofs.thermal.sampled_thermal.Reads as reads
+use Rattle.control.proofs.thermal.sampled_thermal.Lts as lts
+use Rattle.control.proofs.thermal.logs.Reads as logs-reads
+use Rattle.control.proofs.thermal.new_maximum.Reads as new-maximum-reads
+use Rattle.control.proofs.thermal.next_index.Reads as next-index-reads
+
+new-maximum-requires : tie.Need-new-maximum-requires
+new-maximum-requires c κs = search needs
+
+new-maximum-requires-2 : tie.Need-new-maximum-requires-2
+new-maximum-requires-2 c κs = search needs
+
+logs-requires : tie.Need-logs-requires
+logs-requires c κs = search needs
+
+next-index-requires : tie.Need-next-index-requires
+next-index-requires c κs = search needs
+
+returns : tie.Need-returns
+returns c =
+    let a = c .before .before .before .before .before .args in
+    sampled-logged (a .t) (a .interval) (a .sample) _ _ (c .before .before .before .before .new-maximum .ensures) (c .before .before .before .new-maximum2 .ensures) (c .next-index .result) (c .next-index .ensures)
+    (not-true _ (sym (c .before .before .logs .ensures) ∙ c .before .if1 .taken))
+
+add-t8 : tie.Need-add-t8
+add-t8 c = search needs
+
+returns-2 : tie.Need-returns-2
+returns-2 c =
+    let a = c .before .before .before .before .before .args in
+    sampled-counted (a .t) (a .interval) (a .sample) _ _ (c .before .before .before .before .new-maximum .ensures) (c .before .before .before .new-maximum2 .ensures) _ (omega arith)
+    (not-false _ (sym (c .before .before .logs .ensures) ∙ c .before .if1 .left))
+
+pub sampled-thermal-spec : {M : Type 1} → statement M
+sampled-thermal-spec =
+    tie.close
+    (tie.spec
+    new-maximum-requires
+    new-maximum-requires-2
+    logs-requires
+    next-index-requires
+    returns
+    add-t8
+    returns-2)

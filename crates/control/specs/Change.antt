@@ -1,0 +1,43 @@
+-- A struct that says the device of another one, changed by a rule of the model; the stages of its slots stay.
+use mathlib.Core.Path.{_≡_}
+use mathlib.Core.List.{List}
+use Prim.Native.Nat.{ℕ, suc, _+_, _-_}
+use lib.ListN.{length, set}
+use lib.Dec.{ltb}
+use Rattle.model.specs.Device.{Fill, idle, running, Device}
+use Rattle.store.specs.Record.{Stage}
+use Rattle.record.specs.Meaning.{asThermal, asDevice, stagesOf}
+use Rattle.wire.specs.Choice.{if_then_else_}
+use Rattle.model.specs.Temperature.{nextIndex, sampled}
+use Rattle.record.specs.declared.device as code
+
+-- whatever the history is, which the struct does not hold
+pub record Changed (rule : Device → Device) (d r : code.Device.Device) : Type 0 where
+  pub device : (h : List ℕ) → asDevice r h ≡ rule (asDevice d h)
+  pub stages : stagesOf (r .slots) ≡ stagesOf (d .slots)
+  pub four : length (r .slots) ≡ length (d .slots)
+
+-- the same device, with another stage of slot p
+pub record Staged (p : ℕ) (stage : Stage) (d r : code.Device.Device) : Type 0 where
+  pub device : (h : List ℕ) → asDevice r h ≡ asDevice d h
+  pub stages : stagesOf (r .slots) ≡ set (stagesOf (d .slots)) p stage
+  pub four : length (r .slots) ≡ length (d .slots)
+
+-- the code after a fill was stopped: 0008h where one ran
+abbrev pub stoppedCode : Fill → ℕ → ℕ
+stoppedCode idle code = code
+stoppedCode (running first next end) code = 0x0008
+
+-- ---- temperatures
+
+-- a two's complement byte as a place in the order of temperatures, from 0
+abbrev pub shifted : ℕ → ℕ
+shifted b = if ltb b 128 then b + 128 else b - 128
+
+-- the history after a sample: the sample stands at the next place, where it is logged
+abbrev pub historyAfter : code.Thermal.Thermal → ℕ → ℕ → List ℕ → List ℕ
+historyAfter t interval sample h = if ltb (suc (t .minutes)) interval then h else set h (nextIndex (t .index)) sample
+
+-- r says t after a sample
+pub record Sampled (t : code.Thermal.Thermal) (interval sample : ℕ) (r : code.Thermal.Thermal) : Type 0 where
+  pub thermal : (h : List ℕ) → asThermal r (historyAfter t interval sample h) ≡ sampled interval sample (asThermal t h)

@@ -1,0 +1,2 @@
+-- How the device changes.
+pub mod Change

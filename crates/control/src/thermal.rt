@@ -1,0 +1,72 @@
+// Temperatures: a sample, by value. A reading that is logged goes into the record's history, which the caller writes.
+use record::Thermal;
+ghost use mathlib.Core.Path.{_≡_};
+ghost use mathlib.Core.Bool.{Bool, not};
+ghost use Prim.Native.Nat.{_<_, suc};
+ghost use lib.Dec.{ltb};
+ghost use Rattle.model.specs.Temperature.{newMaximum, nextIndex};
+ghost use Rattle.control.specs.Change.{shifted, Sampled};
+
+// A two's complement byte, moved so that the order of the bytes is the order of the temperatures.
+fn shifted(b: u8) -> u8
+    ensures { λ r. ⌜ r ≡ shifted b ⌝ }
+{
+    if b < 128 { b + 128 } else { b - 128 }
+}
+
+// "A missing sample .. moves no maximum. A missing maximum takes the first real sample."
+pub fn new_maximum(sample: u8, old: u8) -> u8
+    ensures { λ r. ⌜ r ≡ newMaximum sample old ⌝ }
+{
+    if sample == 128 {
+        return old;
+    }
+    if old == 128 {
+        return sample;
+    }
+    if shifted(sample) <= shifted(old) {
+        return old;
+    }
+    sample
+}
+
+// "a reading is logged at index + 1, and 0 follows 477"
+pub fn next_index(index: u16) -> u16
+    requires { ⌜ index < 478 ⌝ }
+    ensures { λ r. ⌜ r ≡ nextIndex index ⌝ }
+{
+    if index == 477 { 0 } else { index + 1 }
+}
+
+// Whether this minute's sample is logged.
+pub fn logs(minutes: u16, interval: u16) -> bool
+    requires { ⌜ minutes < interval ⌝ }
+    ensures { λ r. ⌜ r ≡ not (ltb (suc minutes) interval) ⌝ }
+{
+    minutes + 1 >= interval
+}
+
+pub fn sampled_thermal(t: Thermal, interval: u16, sample: u8) -> Thermal
+    requires { ⌜ (t .minutes < interval) × (t .index < 478) ⌝ }
+    ensures { λ r. ⌜ Sampled t interval sample r ⌝ }
+{
+    let cycle = new_maximum(sample, t.cycle);
+    let life = new_maximum(sample, t.life);
+    if logs(t.minutes, interval) {
+        let index = next_index(t.index);
+        return Thermal {
+            current: sample,
+            cycle,
+            life,
+            index,
+            minutes: 0,
+        };
+    }
+    Thermal {
+        current: sample,
+        cycle,
+        life,
+        index: t.index,
+        minutes: t.minutes + 1,
+    }
+}

@@ -1,0 +1,5 @@
+-- Laws of the image crate, in reading order.
+pub mod EntryInPlace
+pub mod ChainLaws
+pub mod RefusalLaws
+pub mod SaveLaws

@@ -1,0 +1,45 @@
+// The chain of entries, from the last trailer back.
+use crate::entry::entry_holds;
+ghost use mathlib.Core.Path.{_≡_};
+ghost use Prim.Native.Nat.{_+_, _*_, _≤_};
+ghost use lib.ListN.{length};
+ghost use Rattle.model.specs.Sizes.{entrySize, entryLimit};
+ghost use Rattle.model.specs.Image.{chainHolds, readable};
+
+// "Reading starts at the last trailer and follows the chain back": the entries from `number` down to the first, the last trailer at `at`.
+// The image is passed by the address of the slice, so that the call at the end takes no stack.
+fn chain_holds(native: u64, image: &&[u8], at: usize, number: u32) -> bool
+    requires { ⌜ number ≤ entryLimit ⌝ }
+    requires long { ⌜ entrySize * number ≤ length (now (now image)) ⌝ }
+    ensures { λ r. ⌜ r ≡ chainHolds native (now (now (image .entry))) number at ⌝ }
+{
+    if number == 0 {
+        return at == 0xFFFFFFFF;
+    }
+    if at != 560 * (number as usize) - 16 {
+        return false;
+    }
+    if !entry_holds(native, *image, at, number) {
+        return false;
+    }
+    let before = wire::u32_at(*image, at + 4);
+    chain_holds(native, image, before as usize, number - 1)
+}
+
+// Whether the image, used up to `used`, is readable.
+pub fn readable(image: &[u8], used: usize) -> bool
+    requires { ⌜ used ≤ length (now image) ⌝ }
+    ensures { λ r. ⌜ r ≡ readable (now (image .entry)) used ⌝ }
+{
+    if used % 560 != 0 {
+        return false;
+    }
+    if used > 65520 {
+        return false;
+    }
+    if used == 0 {
+        return true;
+    }
+    let native = wire::u64_at(image, used - 560);
+    chain_holds(native, &image, used - 16, (used / 560) as u32)
+}

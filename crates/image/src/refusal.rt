@@ -1,0 +1,59 @@
+// The answers to an image: whether it can be read for this disk, and whether it can take one more entry.
+use crate::chain::readable;
+ghost use mathlib.Core.Path.{_≡_};
+ghost use mathlib.Core.Bool.{true};
+ghost use Prim.Native.Nat.{_≤_};
+ghost use lib.ListN.{length};
+ghost use Rattle.wire.specs.Choice.{firstFailed};
+ghost use Rattle.model.specs.Image.{readable, sameDisk, hasRoom, saveChecks};
+ghost use Rattle.image.specs.Checks.{imageChecks};
+
+// Whether the image is empty or its newest entry is this disk's.
+fn same_disk(native: u64, image: &[u8], used: usize) -> bool
+    requires { ⌜ (used ≤ length (now image)) × (readable (now image) used ≡ true) ⌝ }
+    ensures { λ r. ⌜ r ≡ sameDisk native (now (image .entry)) used ⌝ }
+{
+    if used == 0 {
+        return true;
+    }
+    let newest = wire::u64_at(image, used - 560);
+    newest == native
+}
+
+// 0, or the number of the refusal: 2 length, 6 image, 7 other disk.
+pub fn read_refusal(native: u64, image: &[u8], used: usize) -> u32
+    ensures { λ r. ⌜ r ≡ firstFailed (imageChecks native (now (image .entry)) used) ⌝ }
+{
+    if used > image.len() {
+        return 2;
+    }
+    if !readable(image, used) {
+        return 6;
+    }
+    if !same_disk(native, image, used) {
+        return 7;
+    }
+    0
+}
+
+// "on a save only: image has 117 entries, or its buffer lacks 560 more bytes"
+fn has_room(image: &[u8], used: usize) -> bool
+    requires { ⌜ used ≤ length (now image) ⌝ }
+    ensures { λ r. ⌜ r ≡ hasRoom (now (image .entry)) used ⌝ }
+{
+    (used / 560 < 117) & (560 <= image.len() - used)
+}
+
+// 0, or the number of the refusal: 2 length, 6 image, 7 other disk, 8 full.
+pub fn save_refusal(native: u64, image: &[u8], used: usize) -> u32
+    ensures { λ r. ⌜ r ≡ firstFailed (saveChecks native (now (image .entry)) used) ⌝ }
+{
+    let n = read_refusal(native, image, used);
+    if n != 0 {
+        return n;
+    }
+    if !has_room(image, used) {
+        return 8;
+    }
+    0
+}

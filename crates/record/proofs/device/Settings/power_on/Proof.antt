@@ -1,0 +1,20 @@
+-- `record::device::Settings::power_on` meets its contract.
+use Rattle.model.specs.Sizes.{powerOnTimer}
+use borrow.Author.Needs.{needs}
+use Rattle.record.proofs.device.Settings.power_on.Statement.{statement}
+use Rattle.record.proofs.device.Settings.power_on.Tie as tie
+
+kept-requires : tie.Need-kept-requires
+kept-requires c κs = search needs
+
+kept-requires-2 : tie.Need-kept-requires-2
+kept-requires-2 c κs = search needs
+
+kept-requires-3 : tie.Need-kept-requires-3
+kept-requires-3 c κs = search needs
+
+returns : tie.Need-returns
+returns c = λ i. record { readTimer = powerOnTimer; writeTimer = powerOnTimer; writeCache = (c .before .before .kept .ensures) i; reordering = (c .before .kept2 .ensures) i; logInterval = (c .kept3 .ensures) i }
+
+pub power-on-spec : {M : Type 1} → statement M
+power-on-spec = tie.close (tie.spec kept-requires kept-requires-2 kept-requires-3 returns)

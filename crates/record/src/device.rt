@@ -1,0 +1,105 @@
+// The device as a struct by value. The history stays in the record's bytes: the struct is small.
+ghost use mathlib.Core.Path.{_≡_};
+ghost use Rattle.model.specs.Image.{kept};
+ghost use Rattle.record.specs.Meaning.{asFeature, asSettings};
+ghost use Rattle.record.specs.PowerOn.{settingsOf};
+
+pub enum Stage {
+    Empty,
+    Held,
+    Answered,
+}
+
+pub enum Transfer {
+    None,
+    Table,
+    FillData(u64, u64),
+}
+
+pub enum Fill {
+    Idle,
+    Running(u64, u64, u64),
+}
+
+// A port's slot: its stage, and the transfer that the port has pending.
+pub struct Slot {
+    pub stage: Stage,
+    pub pending: Transfer,
+}
+
+// The last SCT command.
+pub struct Command {
+    pub code: u16,
+    pub action: u16,
+    pub function: u16,
+    pub fill: Fill,
+}
+
+pub struct Feature {
+    pub state: u16,
+    pub persistent: bool,
+}
+
+// The recovery timers of reads and writes, in 100 ms, and the three features.
+pub struct Settings {
+    pub read: u16,
+    pub write: u16,
+    pub cache: Feature,
+    pub reordering: Feature,
+    pub interval: Feature,
+}
+
+// The temperatures now, of this power cycle and of the device's life; the newest reading's index; the minutes counted.
+pub struct Thermal {
+    pub current: u8,
+    pub cycle: u8,
+    pub life: u8,
+    pub index: u16,
+    pub minutes: u16,
+}
+
+// "four slots of 528": a struct for each.
+pub struct Device {
+    pub native: u64,
+    pub visible: u64,
+    pub locked: bool,
+    pub initialized: bool,
+    pub command: Command,
+    pub settings: Settings,
+    pub thermal: Thermal,
+    pub slots: [Slot; 4],
+}
+
+impl Settings {
+    // "Timers return to 0 at power-on."
+    const POWER_ON_TIMER: u16 = 0;
+    // ".. other states return to 1."
+    const STATE_NOT_KEPT: u16 = 1;
+
+    // A feature at power-on: "Option 1 keeps a state over power".
+    fn kept(f: Feature) -> Feature
+        ensures { λ r. ⌜ asFeature r ≡ kept (asFeature f) ⌝ }
+    {
+        if f.persistent {
+            f
+        } else {
+            Feature {
+                state: Self::STATE_NOT_KEPT,
+                persistent: f.persistent,
+            }
+        }
+    }
+
+    // The settings at power-on, of the features that were saved.
+    pub fn power_on(cache: Feature, reordering: Feature, interval: Feature) -> Settings
+        ensures { λ r. ⌜ asSettings r ≡ settingsOf (asFeature cache) (asFeature reordering) (asFeature interval) ⌝ }
+    {
+        Settings {
+            read: Self::POWER_ON_TIMER,
+            write: Self::POWER_ON_TIMER,
+            cache: Self::kept(cache),
+            reordering: Self::kept(reordering),
+            interval: Self::kept(interval),
+        }
+    }
+}

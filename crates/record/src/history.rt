@@ -1,0 +1,28 @@
+// The history in the record's bytes: one reading logged, and all of them removed.
+ghost use mathlib.Core.Path.{_≡_};
+ghost use Prim.Native.Nat.{_+_, _<_};
+ghost use lib.ListN.{length, set};
+ghost use lib.Seq.{sets};
+ghost use Rattle.model.specs.Sizes.{historySize};
+ghost use Rattle.model.specs.Temperature.{tableHeadSize, emptyHistory};
+ghost use Rattle.store.specs.Areas.{recordSize, headSize};
+
+// Stores a reading at an index of the history.
+pub fn log_reading(r: &mut [u8], index: usize, reading: u8)
+    requires { ⌜ (length (now r) ≡ recordSize) × (index < historySize) ⌝ }
+    ensures { λ _. ⌜ now (r .exit) ≡ set (now (r .entry)) (headSize + tableHeadSize + index) reading ⌝ }
+{
+    r[546 + index] = reading;
+}
+
+// "Empty history is all 80h"
+pub fn empty_history(r: &mut [u8])
+    requires { ⌜ length (now r) ≡ recordSize ⌝ }
+    ensures { λ _. ⌜ now (r .exit) ≡ sets (now (r .entry)) (headSize + tableHeadSize) emptyHistory ⌝ }
+{
+    let mut i = 0;
+    while i < 478 {
+        r[546 + i] = 0x80;
+        i += 1;
+    }
+}

@@ -1,0 +1,4 @@
+-- Laws of text's definitions, in reading order.
+pub mod DigitsLaws
+pub mod WroteLaws
+pub mod RecordsLaws

@@ -1,0 +1,59 @@
+-- Stores inside a run that was stored before: the run is changed first, and stored then.
+use mathlib.Core.Path.{_≡_, refl, sym, ap, _∙_}
+use mathlib.Core.Bool.{Bool, true}
+use Prim.Native.Nat.{ℕ, zero, suc, _+_, _≤_, _<_}
+use native.Mathlib.Nat.{add-zero, add-suc, suc-add}
+use native.Mathlib.Omega.{arith}
+use mathlib.Core.List.{List, [], _∷_, _++_}
+use lib.ListN.{length, set, length-set}
+use lib.Seq.{sets, set-set, set-comm}
+use lib.Dec.{leb}
+use Rattle.wire.specs.Numbers.{le, put}
+use Rattle.wire.specs.Parts.{zeros}
+use Rattle.wire.specs.Layout.{Field, stores, placed, form, ordered}
+use Rattle.wire.proofs.ChoiceLaws.{and-right}
+use Rattle.wire.proofs.NumbersLaws.{length-le, length-put}
+use Rattle.wire.proofs.PartsLaws.{length-zeros, sets-append}
+use Rattle.wire.proofs.LayoutLaws.{ordered-end}
+
+set-sets-before : (xs l : List ℕ) (at i a : ℕ) → i < at → set (sets l at xs) i a ≡ sets (set l i a) at xs
+set-sets-before [] l at i a h = refl
+set-sets-before (x ∷ xs) l at i a h =
+    set-sets-before xs (set l at x) (suc at) i a (omega arith)
+    ∙ ap (λ (m : List ℕ). sets m (suc at) xs) (set-comm l at i x a (λ e. omega arith))
+
+set-within : (xs l : List ℕ) (at i a : ℕ) → i < length xs → set (sets l at xs) (at + i) a ≡ sets l at (set xs i a)
+set-within [] l at i a h = absurd (omega arith)
+set-within (x ∷ xs) l at zero a h =
+    rw (add-zero at)
+    (set-sets-before xs (set l at x) (suc at) at a (omega arith) ∙ ap (λ (m : List ℕ). sets m (suc at) xs) (set-set l at x a))
+set-within (x ∷ xs) l at (suc i) a h = rw (add-suc at i, ← suc-add at i) (set-within xs (set l at x) (suc at) i a (omega arith))
+
+pub sets-within : (vs xs l : List ℕ) (at i : ℕ) → i + length vs ≤ length xs → sets (sets l at xs) (at + i) vs ≡ sets l at (sets xs i vs)
+sets-within [] xs l at i h = refl
+sets-within (v ∷ vs) xs l at i h =
+    rw (set-within xs l at i v (omega arith), ← add-suc at i)
+    (sets-within vs (set xs i v) l at (suc i) (rw length-set (omega arith)))
+
+pub put-within : (k v : ℕ) (xs l : List ℕ) (at i : ℕ) → i + k ≤ length xs → put k (sets l at xs) (at + i) v ≡ sets l at (put k xs i v)
+unfolding put
+put-within k v xs l at i h = sets-within (le k v) xs l at i (rw (length-le k v) h)
+
+pub stores-within : (fs : List Field) (from n at : ℕ) (l xs : List ℕ) → ordered from n fs ≡ true → n ≤ length xs
+    → stores (placed at fs) (sets l at xs) ≡ sets l at (stores fs xs)
+stores-within [] from n at l xs o h = refl
+stores-within (f ∷ fs) from n at l xs o h =
+    let o′ = and-right (leb from (f .0)) (ordered (f .0 + f .1) n fs) o in
+    let fits = ordered-end fs (f .0 + f .1) n o′ in
+    ap (stores (placed at fs)) (put-within (f .1) (f .2) xs l at (f .0) (omega arith))
+    ∙ stores-within fs (f .0 + f .1) n at l (put (f .1) xs (f .0) (f .2)) o′ (rw (length-put (f .1) xs (f .0) (f .2)) h)
+
+-- a run stored, and another behind it
+pub sets-then : (xs ys l : List ℕ) (at n : ℕ) → length xs ≡ n → sets (sets l at xs) (at + n) ys ≡ sets l at (xs ++ ys)
+sets-then xs ys l at n e = ap (λ (m : ℕ). sets (sets l at xs) (at + m) ys) (sym e) ∙ sym (sets-append xs ys l at)
+
+-- n bytes cleared, and the fields stored there: the form
+pub form-within : (n : ℕ) (fs : List Field) (l : List ℕ) (at : ℕ) → ordered 0 n fs ≡ true
+    → stores (placed at fs) (sets l at (zeros n)) ≡ sets l at (form n fs)
+unfolding form
+form-within n fs l at o = stores-within fs 0 n at l (zeros n) o (rw (length-zeros n) (omega arith))
