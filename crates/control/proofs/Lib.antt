@@ -2,3 +2,4 @@
 pub mod InterruptLaw
 pub mod SlotLaws
 pub mod ThermalLaws
+pub mod SettingsLaws

@@ -1,18 +1,23 @@
-// How the device changes, by value: a fill stopped, started and moved on; lock and visible size; temperatures.
-mod command;
+// How the device changes, by value: a fill stopped, started and moved on; lock and visible size; timers and features; temperatures.
+mod last;
 mod owner;
+mod settings;
 mod thermal;
 
-pub use command::advanced;
-pub use command::cleared_flag;
-pub use command::interrupt;
-pub use command::start_fill;
-pub use command::with_code;
-pub use command::with_key;
-pub use command::with_pending;
+pub use last::advanced;
+pub use last::cleared_flag;
+pub use last::interrupt;
+pub use last::start_fill;
+pub use last::with_code;
+pub use last::with_key;
+pub use last::with_pending;
 pub use owner::set_lock;
 pub use owner::set_visible;
 pub use owner::with_stage;
+pub use settings::feature;
+pub use settings::set_feature;
+pub use settings::set_timer;
+pub use settings::timer;
 pub use thermal::logs;
 pub use thermal::new_maximum;
 pub use thermal::next_index;

@@ -1,5 +1,5 @@
 // Lock, unlock and visible size; the stage of a slot.
-use crate::command::interrupt;
+use crate::last::interrupt;
 use record::Device;
 use record::Slot;
 use record::Stage;

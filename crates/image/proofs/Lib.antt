@@ -3,3 +3,4 @@ pub mod EntryInPlace
 pub mod ChainLaws
 pub mod RefusalLaws
 pub mod SaveLaws
+pub mod RestoreLaws

@@ -51,11 +51,11 @@ earlier true true false t h = refl
 earlier true true true t h = absurd (h refl)
 
 later : (a b c t : Bool) → firstFailed ((a, 2) ∷ (b, 6) ∷ (c, 7) ∷ []) ≡ 0
-    → (a ≡ true) × ((if t then 0 else 8) ≡ firstFailed ((a, 2) ∷ (b, 6) ∷ (c, 7) ∷ (t, 8) ∷ []))
+    → (a ≡ true) × (b ≡ true) × ((if t then 0 else 8) ≡ firstFailed ((a, 2) ∷ (b, 6) ∷ (c, 7) ∷ (t, 8) ∷ []))
 later false b c t h = absurd (omega arith)
 later true false c t h = absurd (omega arith)
 later true true false t h = absurd (omega arith)
-later true true true t h = (refl, refl)
+later true true true t h = (refl, refl, refl)
 
 module _ (native : ℕ) (image : List ℕ) (used : ℕ) where
   pub read-long : length image < used → 2 ≡ firstFailed (imageChecks native image used)
@@ -76,4 +76,11 @@ module _ (native : ℕ) (image : List ℕ) (used : ℕ) where
   read-within e = leb-true used (length image) (later (leb used (length image)) (readable image used) (sameDisk native image used) true e .0)
 
   pub save-room : firstFailed (imageChecks native image used) ≡ 0 → (if hasRoom image used then 0 else 8) ≡ firstFailed (saveChecks native image used)
-  save-room e = later (leb used (length image)) (readable image used) (sameDisk native image used) (hasRoom image used) e .1
+  save-room e = later (leb used (length image)) (readable image used) (sameDisk native image used) (hasRoom image used) e .2
+
+  -- an image that is read, and not empty, has an entry in front of its used length
+  pub read-readable : firstFailed (imageChecks native image used) ≡ 0 → readable image used ≡ true
+  read-readable e = later (leb used (length image)) (readable image used) (sameDisk native image used) true e .1
+
+  pub read-entry : firstFailed (imageChecks native image used) ≡ 0 → (used ≡ 0 → ⊥) → (entrySize ≤ used) × (used ≤ length image)
+  read-entry e some = (entry-before image used (read-readable e) some, read-within e)

@@ -2,3 +2,4 @@
 pub mod InPlace
 pub mod Checks
 pub mod Head
+pub mod Restore

@@ -56,7 +56,7 @@ fixed-kept r at vs h =
       get-sets-before 2 r (headSize + 30) at vs (omega arith),
     )
 
-history-stored : (r : List ℕ) (at : ℕ) (vs : List ℕ) → headSize + tableHeadSize ≤ at → Framed r → Framed (sets r at vs)
+pub history-stored : (r : List ℕ) (at : ℕ) (vs : List ℕ) → headSize + tableHeadSize ≤ at → Framed r → Framed (sets r at vs)
 history-stored r at vs h f =
     record {
       size = length-sets r at vs ∙ f .size;

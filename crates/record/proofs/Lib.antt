@@ -5,3 +5,4 @@ pub mod SoundnessLaws
 pub mod FitsLaws
 pub mod FramedLaws
 pub mod HistoryLaws
+pub mod FrameLaws

@@ -1,6 +1,8 @@
-// The device record: as a struct by value (device.rt), read from its bytes (codec.rt), judged in place (soundness.rt) and written (writing.rt, history.rt).
+// The device record: as a struct by value (device.rt), read from its bytes (codec.rt), judged in place (soundness.rt, table.rt), written
+// (writing.rt, history.rt), and made anew (framing.rt).
 mod codec;
 mod device;
+mod framing;
 mod history;
 mod soundness;
 mod table;
@@ -16,6 +18,7 @@ pub use device::Slot;
 pub use device::Stage;
 pub use device::Thermal;
 pub use device::Transfer;
+pub use framing::frame;
 pub use history::empty_history;
 pub use history::log_reading;
 pub use soundness::sound;

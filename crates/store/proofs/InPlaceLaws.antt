@@ -39,7 +39,7 @@ abbrev headPlaces : List Field
 headPlaces = headFields (decode [])
 
 -- whether i lies in one of the runs
-abbrev inRuns : List (ℕ × ℕ) → ℕ → Bool
+abbrev pub inRuns : List (ℕ × ℕ) → ℕ → Bool
 inRuns [] i = false
 inRuns (x ∷ xs) i = (leb (x .0) i && ltb i (x .0 + x .1)) || inRuns xs i
 
@@ -83,7 +83,7 @@ abbrev pub RunsWithin : ℕ → List (ℕ × ℕ) → Type 0
 RunsWithin n [] = Unit {0}
 RunsWithin n (x ∷ xs) = (x .0 + x .1 ≤ n) × RunsWithin n xs
 
-runs-within : (n : ℕ) (runs : List (ℕ × ℕ)) (i : ℕ) → RunsWithin n runs → inRuns runs i ≡ true → i < n
+pub runs-within : (n : ℕ) (runs : List (ℕ × ℕ)) (i : ℕ) → RunsWithin n runs → inRuns runs i ≡ true → i < n
 runs-within n [] i w e = absurd (let z : _≡_ {A = ℕ} 0 1 = cc in omega arith)
 runs-within n (x ∷ xs) i w e = go (leb (x .0) i && ltb i (x .0 + x .1)) refl e (runs-within n xs i (w .1))
   where
@@ -92,7 +92,7 @@ runs-within n (x ∷ xs) i w e = go (leb (x .0) i && ltb i (x .0 + x .1)) refl e
     go false q e rest = rest e
 
 -- runs whose every byte is 0
-zero-run : (runs : List (ℕ × ℕ)) (r : List ℕ) → ((i : ℕ) → inRuns runs i ≡ true → getD r i 0 ≡ 0) → zeroRuns runs r ≡ true
+pub zero-run : (runs : List (ℕ × ℕ)) (r : List ℕ) → ((i : ℕ) → inRuns runs i ≡ true → getD r i 0 ≡ 0) → zeroRuns runs r ≡ true
 zero-run [] r h = refl
 zero-run (x ∷ xs) r h =
     and-both (allZero (part r (x .0) (x .1))) (zeroRuns xs r)

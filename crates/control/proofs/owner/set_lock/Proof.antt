@@ -6,7 +6,7 @@ use Rattle.control.proofs.owner.set_lock.Statement.{statement}
 use Rattle.control.proofs.owner.set_lock.Tie as tie
 use Rattle.control.proofs.owner.set_lock.Reads as reads
 use Rattle.control.proofs.owner.set_lock.Lts as lts
-use Rattle.control.proofs.command.interrupt.Reads as interrupt-reads
+use Rattle.control.proofs.last.interrupt.Reads as interrupt-reads
 
 interrupt-requires : tie.Need-interrupt-requires
 interrupt-requires c κs = search needs

@@ -9,7 +9,7 @@ use Rattle.control.proofs.owner.set_visible.Statement.{statement}
 use Rattle.control.proofs.owner.set_visible.Tie as tie
 use Rattle.control.proofs.owner.set_visible.Reads as reads
 use Rattle.control.proofs.owner.set_visible.Lts as lts
-use Rattle.control.proofs.command.interrupt.Reads as interrupt-reads
+use Rattle.control.proofs.last.interrupt.Reads as interrupt-reads
 
 interrupt-requires : tie.Need-interrupt-requires
 interrupt-requires c κs = search needs

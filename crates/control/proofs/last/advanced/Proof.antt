@@ -1,9 +1,9 @@
 use mathlib.Core.Path.{refl}
 use borrow.Author.Tests.{eq-eqb, ne-eqb}
-use Rattle.control.proofs.command.advanced.Statement.{statement}
-use Rattle.control.proofs.command.advanced.Tie as tie
-use Rattle.control.proofs.command.advanced.Reads as reads
-use Rattle.control.proofs.command.advanced.Lts as lts
+use Rattle.control.proofs.last.advanced.Statement.{statement}
+use Rattle.control.proofs.last.advanced.Tie as tie
+use Rattle.control.proofs.last.advanced.Reads as reads
+use Rattle.control.proofs.last.advanced.Lts as lts
 
 returns : tie.Need-returns
 returns c =

@@ -1,0 +1,56 @@
+use mathlib.Core.Path.{refl, sym, ap, _∙_}
+use Rattle.model.specs.Device.{Settings}
+use Rattle.model.specs.Update.{withSettings, withThermal}
+use Rattle.model.specs.Temperature.{historyEmptied}
+use Rattle.model.specs.Decide.{withFeature}
+use Rattle.record.specs.Meaning.{asDevice}
+use Rattle.command.specs.Meaning.{asFeatureName}
+use Rattle.control.proofs.SettingsLaws.{interval-emptied, other-kept}
+use borrow.Author.Needs.{needs}
+use Rattle.control.proofs.settings.set_feature.Statement.{statement}
+use Rattle.control.proofs.settings.set_feature.Tie as tie
+use Rattle.control.proofs.settings.set_feature.Reads as reads
+use Rattle.control.proofs.settings.set_feature.Lts as lts
+use Rattle.control.proofs.settings.is_interval.Reads as is-interval-reads
+use Rattle.control.proofs.settings.with_feature.Reads as with-feature-reads
+
+-- src/settings.rt:106:9
+with-feature-requires : tie.Need-with-feature-requires
+with-feature-requires c κs = search needs
+
+-- src/settings.rt:109:8
+is-interval-requires : tie.Need-is-interval-requires
+is-interval-requires c κs = search needs
+
+-- src/settings.rt:114:9
+returns : tie.Need-returns
+unfolding historyEmptied
+returns c =
+    let a = c .before .before .before .before .before .args in
+    let name = asFeatureName (a .name) in
+    record {
+      device = λ h.
+          let d = asDevice (a .d) h in
+          let emptied = interval-emptied name (withSettings (withFeature name (record { state = a .state; persistent = a .persistent }) (d .settings)) d) h (sym (c .before .before .is-interval .ensures) ∙ c .before .if1 .taken) in
+          rw (emptied .0, emptied .1) (ap (λ (t : Settings). withThermal (historyEmptied (d .thermal)) (withSettings t d)) (c .before .before .before .with-feature .ensures));
+      stages = refl;
+      four = refl;
+    }
+
+-- src/settings.rt:101:1
+returns-2 : tie.Need-returns-2
+returns-2 c =
+    let a = c .before .before .before .before .args in
+    let name = asFeatureName (a .name) in
+    record {
+      device = λ h.
+          let d = asDevice (a .d) h in
+          let kept = other-kept name (withSettings (withFeature name (record { state = a .state; persistent = a .persistent }) (d .settings)) d) h (sym (c .before .is-interval .ensures) ∙ c .if1 .left) in
+          rw (kept .0, kept .1) (ap (λ (t : Settings). withSettings t d) (c .before .before .with-feature .ensures));
+      stages = refl;
+      four = refl;
+    }
+
+pub set-feature-spec : {M : Type 1} → statement M
+set-feature-spec =
+    tie.close (tie.spec with-feature-requires is-interval-requires returns returns-2)

@@ -1,0 +1,16 @@
+use mathlib.Core.Path.{refl}
+use Rattle.record.specs.Meaning.{asSettings}
+use Rattle.image.proofs.RestoreLaws.{powered-is}
+use Rattle.image.proofs.restore.powered.Statement.{statement}
+use Rattle.image.proofs.restore.powered.Tie as tie
+use Rattle.image.proofs.restore.powered.Reads as reads
+use Rattle.image.proofs.restore.powered.Lts as lts
+
+-- src/restore.rt:50:1
+returns : tie.Need-returns
+returns c =
+    let a = c .args in
+    (λ s en ev ei el es ex. powered-is s (a .native) (a .visible) (a .initialized) (a .life) (asSettings (a .settings)) (a .index) en ev ei el es ex, refl)
+
+pub powered-spec : {M : Type 1} → statement M
+powered-spec = tie.close (tie.spec returns)
