@@ -7,7 +7,7 @@ use lib.Dec.{eqb}
 use borrow.Author.Tests.{ne-eqb}
 use Rattle.wire.specs.Choice.{if_then_else_, between, firstFailed}
 use Rattle.model.specs.Device.{Device}
-use Rattle.model.specs.Key.{word, fillChecks, timerChecks, featureChecks, tableChecks, keyChecks, Action, sendTable, fillAction, timerAction, featureAction, actionOf, Verdict, rejected, verdict, judgeKey}
+use Rattle.model.specs.Key.{word, fillChecks, timerChecks, featureChecks, tableChecks, keyChecks, Action, sendTable, fillAction, timerAction, featureAction, actionOf, rejected, verdict, judgeKey}
 use Rattle.command.specs.Meaning.{judgeWith}
 
 -- THE LAW of a read key: what is judged by the lock and the visible size is what the device judges.

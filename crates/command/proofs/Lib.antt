@@ -2,4 +2,3 @@
 pub mod TestLaws
 pub mod SlotLaws
 pub mod KeyReadLaws
-pub mod ReplyLaws

@@ -1,3 +1,2 @@
--- In reading order.
+-- What the enums of the code say.
 pub mod Meaning
-pub mod Fields

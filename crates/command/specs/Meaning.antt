@@ -1,13 +1,12 @@
--- What the enums and the struct of the code say, in the model's words.
+-- What the enums of the code say, in the model's words.
 use mathlib.Core.Bool.{Bool, not}
 use Prim.Native.Nat.{ℕ}
 use mathlib.Core.List.{List, _∷_}
 use Rattle.wire.specs.Choice.{between, Check, firstFailed}
-use Rattle.model.specs.Registers.{Direction, read, write, Request, statusRead, keySector, dataTransfer, sectorAccess, other, Registers}
+use Rattle.model.specs.Registers.{Direction, read, write, Request, statusRead, keySector, dataTransfer, sectorAccess, other}
 use Rattle.model.specs.Key.{word, actionChecks, FeatureName, writeCache, reordering, logInterval, Action, fillPattern, fillSector, setTimer, returnTimer, setFeature, returnState, returnOption, sendTable, actionOf, Verdict, accepted, rejected, verdict}
 use Rattle.command.specs.declared.request as request
 use Rattle.command.specs.declared.key as key
-use Rattle.command.specs.declared.reply as reply
 use Rattle.command.specs.declared.request.Direction.the-variants.{Read, Write}
 use Rattle.command.specs.declared.request.Request.the-variants.{Status, Key, Data, Sector, Other}
 use Rattle.command.specs.declared.key.FeatureName.the-variants.{Cache, Reordering, Interval}
@@ -60,8 +59,3 @@ checksWith locked visible k = (not locked, 0x0012) ∷ (between 2 (word k 0) 5, 
 
 unfoldable pub judgeWith : Bool → ℕ → List ℕ → Verdict
 judgeWith locked visible k = verdict (firstFailed (checksWith locked visible k)) (actionOf visible k)
-
--- ---- replies
-
-abbrev pub asRegisters : reply.Reply.Reply → Registers
-asRegisters r = record { status = r .status; error = r .error; value = r .value; sectors = r .sectors }

@@ -1,13 +1,12 @@
 -- A struct with the fill stopped and nothing pending says the interrupted device.
 use mathlib.Core.Path.{_≡_, refl, sym, ap, _∙_}
-use mathlib.Core.List.{List, [], _∷_, map}
+use mathlib.Core.List.{List, [], _∷_}
 use Prim.Native.Nat.{ℕ}
 use native.Mathlib.Omega.{arith}
 use lib.ListN.{length, getD}
-use Rattle.model.specs.Device.{Fill, idle, running, Transfer, none, Device}
+use Rattle.model.specs.Device.{Fill, idle, running, none, Device}
 use Rattle.model.specs.Update.{withCommand, withPending}
 use Rattle.model.specs.Fill.{nothingPending, stopFill, interrupt}
-use Rattle.store.specs.Record.{Stage}
 use Rattle.record.specs.declared.device as code
 use Rattle.record.specs.declared.device.Fill.the-variants.{Idle}
 use Rattle.record.specs.Meaning.{asStage, asTransfer, asFill, stagesOf, pendingOf, asDevice}

@@ -1,14 +1,14 @@
 -- A slot with another stage or another pending transfer, in the array of four.
-use mathlib.Core.Path.{_≡_, refl, sym, ap, _∙_}
+use mathlib.Core.Path.{_≡_, refl, ap}
 use mathlib.Core.List.{List, [], _∷_, map}
 use Prim.Native.Nat.{ℕ, zero, suc}
-use lib.ListN.{length, getD, set, length-set}
+use lib.ListN.{getD, set, length-set}
 use lib.Seq.{map-set-same}
 use Rattle.model.specs.Device.{Transfer, Device}
 use Rattle.model.specs.Update.{withPending}
 use Rattle.store.specs.Record.{Stage}
 use Rattle.record.specs.declared.device as code
-use Rattle.record.specs.Meaning.{asStage, asTransfer, stagesOf, pendingOf, asDevice}
+use Rattle.record.specs.Meaning.{asStage, asTransfer, asDevice}
 use Rattle.control.specs.Change.{Changed, Staged}
 
 -- a map of a list with one element changed

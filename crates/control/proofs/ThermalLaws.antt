@@ -1,21 +1,18 @@
 -- Laws of temperatures as the code compares and counts them.
-use mathlib.Core.Path.{_≡_, refl, sym, ap, _∙_}
+use mathlib.Core.Path.{_≡_, refl, sym}
 use mathlib.Core.Bool.{Bool, true, false, not}
-use mathlib.Core.List.{List}
-use Prim.Native.Nat.{ℕ, zero, suc, _+_, _-_, _≤_, _<_}
+use Prim.Native.Nat.{ℕ, suc, _+_, _-_, _≤_, _<_}
 use native.Mathlib.Omega.{arith}
 use lib.IntN.{pos, negsuc}
 use lib.Signed.{leZ}
 use lib.ListN.{set}
-use lib.Dec.{eqb, leb, ltb}
-use borrow.Author.Tests.{eq-eqb, ne-eqb, leb-true, leb-false, le-leb, lt-leb, ltb-true, ltb-false}
+use lib.Dec.{leb, ltb}
+use borrow.Author.Tests.{eq-eqb, ne-eqb, leb-true, le-leb, lt-leb, ltb-true, ltb-false}
 use Rattle.wire.specs.Choice.{if_then_else_}
 use Rattle.wire.proofs.ChoiceLaws.{tests-same}
-use Rattle.model.specs.Sizes.{missing}
 use Rattle.model.specs.Temperature.{signed, newMaximum, nextIndex, sampled}
 use Rattle.record.specs.declared.device as code
-use Rattle.record.specs.Meaning.{asThermal}
-use Rattle.control.specs.Change.{shifted, historyAfter, Sampled}
+use Rattle.control.specs.Change.{shifted, Sampled}
 
 -- the order of the moved bytes is the order of the signed values
 pub shifted-order : (a b : ℕ) → a < 256 → b < 256 → leZ (signed a) (signed b) ≡ leb (shifted a) (shifted b)

@@ -8,7 +8,7 @@ ghost use mathlib.Core.Path.{_≡_};
 ghost use mathlib.Core.Bool.{false};
 ghost use Prim.Native.Nat.{_<_};
 ghost use lib.ListN.{length, set};
-ghost use Rattle.model.specs.Device.{idle, none};
+ghost use Rattle.model.specs.Device.{none};
 ghost use Rattle.model.specs.Update.{withCode, withKey, withInitialized, withPending};
 ghost use Rattle.model.specs.Fill.{interrupt, startFill, advanced};
 ghost use Rattle.record.specs.Meaning.{asStage, asTransfer, asFill};

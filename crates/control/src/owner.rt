@@ -4,11 +4,10 @@ use record::Device;
 use record::Slot;
 use record::Stage;
 ghost use mathlib.Core.Path.{_≡_};
-ghost use mathlib.Core.List.{List};
-ghost use Prim.Native.Nat.{ℕ, _<_};
-ghost use lib.ListN.{length, set};
+ghost use Prim.Native.Nat.{_<_};
+ghost use lib.ListN.{length};
 ghost use Rattle.model.specs.Owner.{setLock, setVisible};
-ghost use Rattle.record.specs.Meaning.{asStage, asDevice, stagesOf};
+ghost use Rattle.record.specs.Meaning.{asStage};
 ghost use Rattle.control.specs.Change.{Changed, Staged};
 
 // "Locking, unlocking and setting V do the same as other requests"

@@ -1,7 +1,7 @@
 // Temperatures: a sample, by value. A reading that is logged goes into the record's history, which the caller writes.
 use record::Thermal;
 ghost use mathlib.Core.Path.{_≡_};
-ghost use mathlib.Core.Bool.{Bool, not};
+ghost use mathlib.Core.Bool.{not};
 ghost use Prim.Native.Nat.{_<_, suc};
 ghost use lib.Dec.{ltb};
 ghost use Rattle.model.specs.Temperature.{newMaximum, nextIndex};

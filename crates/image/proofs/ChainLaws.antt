@@ -1,16 +1,14 @@
 -- One turn of the chain, as the code makes it, and the whole chain as readability.
-use mathlib.Core.Path.{_≡_, refl, sym, ap, _∙_}
-use mathlib.Core.Bool.{Bool, true, false, _&&_}
+use mathlib.Core.Path.{_≡_, sym, ap, _∙_}
+use mathlib.Core.Bool.{true, false, _&&_}
 use Prim.Native.Nat.{ℕ, zero, suc, _+_, _-_, _*_, _/_, _%_, _≤_, _<_}
 use native.Mathlib.Omega.{arith}
 use mathlib.Core.List.{List}
-use lib.ListN.{length}
-use lib.Dec.{eqb, leb}
+use lib.Dec.{eqb}
 use borrow.Author.Tests.{eq-eqb, ne-eqb, le-leb, lt-leb}
 use Rattle.wire.specs.Numbers.{get}
-use Rattle.wire.specs.Bytes.{Bytes}
 use Rattle.model.specs.Sizes.{entrySize, entryLimit}
-use Rattle.model.specs.Image.{trailerPlace, previousPlace, entryHolds, every, entries, newest, readable, chainHolds}
+use Rattle.model.specs.Image.{trailerPlace, previousPlace, entryHolds, newest, readable, chainHolds}
 use Rattle.model.proofs.ImageLaws.{chain-every, newest-native}
 
 module _ (native : ℕ) (image : List ℕ) where

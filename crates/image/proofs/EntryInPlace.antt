@@ -1,25 +1,25 @@
 -- The tests of an entry in place say that it holds, exactly.
 use mathlib.Core.Path.{_≡_, refl, sym, ap, ap₂, _∙_, subst}
-use mathlib.Core.Bool.{Bool, true, false, not, _&&_, _||_}
-use Prim.Native.Nat.{ℕ, zero, suc, _+_, _-_, _*_, _/_, _%_, _^_, _≤_, _<_}
+use mathlib.Core.Bool.{true, false, not, _&&_, _||_}
+use Prim.Native.Nat.{ℕ, zero, suc, _+_, _-_, _*_, _≤_, _<_}
 use native.Mathlib.Omega.{arith}
 use native.Mathlib.Nat.{add-zero}
 use native.Mathlib.Decide.{decLt}
-use mathlib.Core.List.{List, [], _∷_, _++_}
+use mathlib.Core.List.{List, [], _++_}
 use lib.ListN.{length, getD, take, drop, length-take, List·getD-eq-default}
 use lib.Seq.{take-add, drop-drop}
-use lib.Dec.{eqb, leb, ltb}
-use borrow.Author.Tests.{eqb-true, eqb-false, eq-eqb, leb-true, le-leb, ltb-true, lt-ltb}
+use lib.Dec.{eqb, leb}
+use borrow.Author.Tests.{eqb-true, eq-eqb, leb-true, le-leb}
 use Rattle.wire.specs.Choice.{bit}
 use Rattle.wire.specs.Numbers.{get}
 use Rattle.wire.specs.Parts.{part}
 use Rattle.wire.specs.Layout.{Field, form, Reads, outside}
 use Rattle.wire.specs.Bytes.{Bytes, same, allZero}
-use Rattle.wire.proofs.ChoiceLaws.{and-left, and-right, and-both, and-three, three-and, bit-small, below, below-all, tests-same}
+use Rattle.wire.proofs.ChoiceLaws.{and-left, and-right, and-both, and-three, bit-small, below, below-all, tests-same}
 use Rattle.wire.proofs.PartsLaws.{length-part, getD-part, get-part, part-part, part-append-right}
 use Rattle.wire.proofs.LayoutLaws.{length-form}
 use Rattle.wire.proofs.FormUnique.{form-unique}
-use Rattle.wire.proofs.BytesLaws.{bytes-part, get-fits, all-zero-true, zero-all-true, same-refl, same-true}
+use Rattle.wire.proofs.BytesLaws.{bytes-part, all-zero-true, zero-all-true, same-refl, same-true}
 use Rattle.model.specs.Sizes.{sectorSize, historySize, bodySize, trailerSize, entrySize, entryLimit}
 use Rattle.model.specs.Temperature.{tableHeadSize, tableBytes}
 use Rattle.model.specs.Image.{Saved, headFields, headSize, bodyBytes, hasBit, savedIn, inRange, bodyHolds, tag, trailerPlace, previousPlace, trailerFields, trailerBytes, bodyAt, entryHolds}

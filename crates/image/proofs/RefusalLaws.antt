@@ -1,7 +1,7 @@
 -- The answers to an image, exit by exit.
-use mathlib.Core.Path.{_≡_, refl, sym, ap, _∙_}
+use mathlib.Core.Path.{_≡_, refl, sym, ap}
 use mathlib.Core.Bool.{Bool, true, false, _&&_}
-use Prim.Native.Nat.{ℕ, _+_, _-_, _/_, _%_, _≤_, _<_}
+use Prim.Native.Nat.{ℕ, _+_, _-_, _/_, _≤_, _<_}
 use native.Mathlib.Omega.{arith}
 use mathlib.Core.List.{List, [], _∷_}
 use lib.ListN.{length}
@@ -11,8 +11,8 @@ use Rattle.wire.specs.Choice.{if_then_else_, firstFailed}
 use Rattle.wire.specs.Numbers.{get}
 use Rattle.wire.proofs.ChoiceLaws.{tests-same}
 use Rattle.model.specs.Sizes.{entrySize, entryLimit}
-use Rattle.model.specs.Image.{entries, readable, sameDisk, hasRoom, saveChecks}
-use Rattle.model.proofs.ImageLaws.{Readable, readable-parts, newest-native}
+use Rattle.model.specs.Image.{readable, sameDisk, hasRoom, saveChecks}
+use Rattle.model.proofs.ImageLaws.{readable-parts, newest-native}
 use Rattle.image.specs.Checks.{imageChecks}
 
 -- ---- the newest entry's disk

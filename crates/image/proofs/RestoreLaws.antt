@@ -1,7 +1,7 @@
 -- The device that power-on makes, and the record of it.
-use mathlib.Core.Path.{_≡_, refl, sym, ap, _∙_}
-use mathlib.Core.Bool.{Bool, true, false}
-use Prim.Native.Nat.{ℕ, _+_, _-_, _*_, _/_, _%_, _≤_}
+use mathlib.Core.Path.{_≡_, sym, ap, _∙_}
+use mathlib.Core.Bool.{Bool, false}
+use Prim.Native.Nat.{ℕ, _+_, _-_, _≤_}
 use native.Mathlib.Omega.{arith}
 use mathlib.Core.List.{List}
 use lib.ListN.{length, replicate}
@@ -21,8 +21,8 @@ use Rattle.model.specs.Image.{Saved, savedIn, trailerPlace, entries, blank, pow
 use Rattle.model.proofs.ImageLaws.{readable-parts}
 use Rattle.store.specs.Record.{Stage, empty, encode}
 use Rattle.record.specs.Meaning.{historyOf}
-use Rattle.record.specs.Framed.{Framed}
-use Rattle.record.proofs.FramedLaws.{history-stored}
+use Rattle.writing.specs.Framed.{Framed}
+use Rattle.writing.proofs.FramedLaws.{history-stored}
 use Rattle.image.specs.InPlace.{savedAt}
 use Rattle.image.specs.Checks.{imageChecks}
 use Rattle.image.specs.Restore.{restoredContents}

@@ -1,5 +1,4 @@
 -- The record's contents after a power-on that restores an entry.
-use mathlib.Core.List.{List}
 use lib.ListN.{replicate}
 use Rattle.model.specs.Sizes.{portCount}
 use Rattle.model.specs.Image.{Saved, powerOn}

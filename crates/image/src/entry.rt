@@ -5,7 +5,7 @@ ghost use lib.ListN.{length};
 ghost use Rattle.wire.specs.Parts.{part};
 ghost use Rattle.wire.specs.Bytes.{same};
 ghost use Rattle.model.specs.Sizes.{bodySize, trailerSize, entrySize, entryLimit};
-ghost use Rattle.model.specs.Image.{inRange, bodyHolds, tag, previousPlace, trailerPlace, entryHolds};
+ghost use Rattle.model.specs.Image.{inRange, tag, previousPlace, trailerPlace, entryHolds};
 ghost use Rattle.image.specs.InPlace.{savedAt, bodyInPlace, trailerInPlace};
 
 // "then the letters SCTE"
@@ -38,7 +38,7 @@ fn body_holds(image: &[u8], at: usize) -> bool
     let flag = wire::u8_at(image, at + 16);
     let options = wire::u8_at(image, at + 24);
     let zero = wire::is_zero(image, at + 25, 7);
-    let fixed = record::table_fixed(image, at + 32);
+    let fixed = soundness::table_fixed(image, at + 32);
     let logged = wire::u16_at(image, at + 36);
     let state = wire::u16_at(image, at + 22);
     let ranged = values_in_range(image, at);

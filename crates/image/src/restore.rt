@@ -19,7 +19,7 @@ ghost use Rattle.model.specs.Image.{Saved, hasBit, blank, powerOnSettings, powe
 ghost use Rattle.store.specs.Areas.{recordSize};
 ghost use Rattle.store.specs.Record.{empty, encode};
 ghost use Rattle.record.specs.Meaning.{asSettings, asDevice, stagesOf, historyOf};
-ghost use Rattle.record.specs.Framed.{Framed};
+ghost use Rattle.writing.specs.Framed.{Framed};
 ghost use Rattle.image.specs.InPlace.{savedAt};
 ghost use Rattle.image.specs.Checks.{imageChecks};
 ghost use Rattle.image.specs.Restore.{restoredContents};
@@ -169,8 +169,8 @@ fn restore_blank(r: &mut [u8], native: u64)
     ensures { λ _. ⌜ now (r .exit) ≡ encode (restoredContents (blank native)) ⌝ }
 {
     let d = blank_device(native);
-    record::frame(r);
-    record::write(r, d);
+    writing::frame(r);
+    writing::write(r, d);
 }
 
 // The record of the device of the entry at `at`.
@@ -180,9 +180,9 @@ fn restore_entry(r: &mut [u8], image: &[u8], at: usize)
 {
     let d = saved_device(image, at);
     let interval = d.settings.interval.state;
-    record::frame(r);
+    writing::frame(r);
     put_history(r, image, at, interval);
-    record::write(r, d);
+    writing::write(r, d);
 }
 
 // The record after a power-on from this image, on a disk of `native` sectors.

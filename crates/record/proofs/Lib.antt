@@ -1,8 +1,2 @@
--- Laws of the structs and of the record's bytes, in reading order.
+-- Laws of the structs.
 pub mod PowerOnLaws
-pub mod SlotsLaws
-pub mod SoundnessLaws
-pub mod FitsLaws
-pub mod FramedLaws
-pub mod HistoryLaws
-pub mod FrameLaws

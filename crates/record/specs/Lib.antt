@@ -1,5 +1,3 @@
--- What the structs say, and what the functions are held to, in reading order.
+-- What the structs say, and the settings at power-on, in reading order.
 pub mod Meaning
 pub mod PowerOn
-pub mod Framed
-pub mod Fits

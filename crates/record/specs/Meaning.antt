@@ -1,7 +1,6 @@
 -- What the structs say: the model's device, field by field, and the record's contents. The history comes from the record's bytes.
-use mathlib.Core.List.{List, [], _∷_, map}
+use mathlib.Core.List.{List, map}
 use Prim.Native.Nat.{ℕ, _+_}
-use lib.ListN.{getD}
 use Rattle.wire.specs.Parts.{part}
 use Rattle.model.specs.Sizes.{historySize}
 use Rattle.model.specs.Device.{Fill, idle, running, Transfer, none, table, fillData, Feature, Command, Settings, Thermal, Device}

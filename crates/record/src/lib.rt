@@ -1,12 +1,6 @@
-// The device record: as a struct by value (device.rt), read from its bytes (codec.rt), judged in place (soundness.rt, table.rt), written
-// (writing.rt, history.rt), and made anew (framing.rt).
+// The device record: the device as a struct by value (device.rt), and read from the record's bytes (codec.rt).
 mod codec;
 mod device;
-mod framing;
-mod history;
-mod soundness;
-mod table;
-mod writing;
 
 pub use codec::decode;
 pub use device::Command;
@@ -18,9 +12,3 @@ pub use device::Slot;
 pub use device::Stage;
 pub use device::Thermal;
 pub use device::Transfer;
-pub use framing::frame;
-pub use history::empty_history;
-pub use history::log_reading;
-pub use soundness::sound;
-pub use table::table_fixed;
-pub use writing::write;

@@ -1,9 +1,8 @@
+-- `control::last::advanced` meets its contract.
 use mathlib.Core.Path.{refl}
 use borrow.Author.Tests.{eq-eqb, ne-eqb}
 use Rattle.control.proofs.last.advanced.Statement.{statement}
 use Rattle.control.proofs.last.advanced.Tie as tie
-use Rattle.control.proofs.last.advanced.Reads as reads
-use Rattle.control.proofs.last.advanced.Lts as lts
 
 returns : tie.Need-returns
 returns c =

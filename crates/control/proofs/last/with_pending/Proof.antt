@@ -1,9 +1,8 @@
+-- `control::last::with_pending` meets its contract.
 use Rattle.control.proofs.SlotLaws.{pending-set}
 use borrow.Author.Needs.{needs}
 use Rattle.control.proofs.last.with_pending.Statement.{statement}
 use Rattle.control.proofs.last.with_pending.Tie as tie
-use Rattle.control.proofs.last.with_pending.Reads as reads
-use Rattle.control.proofs.last.with_pending.Lts as lts
 
 mul-s : tie.Need-mul-s
 mul-s c = search needs

@@ -1,12 +1,10 @@
+-- `control::owner::set_lock` meets its contract.
 use mathlib.Core.Path.{ap}
 use Rattle.model.specs.Update.{withLocked}
 use Rattle.model.specs.Owner.{setLock}
 use borrow.Author.Needs.{needs}
 use Rattle.control.proofs.owner.set_lock.Statement.{statement}
 use Rattle.control.proofs.owner.set_lock.Tie as tie
-use Rattle.control.proofs.owner.set_lock.Reads as reads
-use Rattle.control.proofs.owner.set_lock.Lts as lts
-use Rattle.control.proofs.last.interrupt.Reads as interrupt-reads
 
 interrupt-requires : tie.Need-interrupt-requires
 interrupt-requires c κs = search needs

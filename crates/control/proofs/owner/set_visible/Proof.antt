@@ -1,3 +1,4 @@
+-- `control::owner::set_visible` meets its contract.
 use mathlib.Core.Path.{ap}
 use mathlib.Core.Bool.{_&&_}
 use lib.Dec.{eqb}
@@ -7,9 +8,6 @@ use Rattle.model.specs.Owner.{setVisible}
 use borrow.Author.Needs.{needs}
 use Rattle.control.proofs.owner.set_visible.Statement.{statement}
 use Rattle.control.proofs.owner.set_visible.Tie as tie
-use Rattle.control.proofs.owner.set_visible.Reads as reads
-use Rattle.control.proofs.owner.set_visible.Lts as lts
-use Rattle.control.proofs.last.interrupt.Reads as interrupt-reads
 
 interrupt-requires : tie.Need-interrupt-requires
 interrupt-requires c κs = search needs

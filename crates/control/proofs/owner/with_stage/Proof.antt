@@ -1,9 +1,8 @@
+-- `control::owner::with_stage` meets its contract.
 use Rattle.control.proofs.SlotLaws.{stage-set}
 use borrow.Author.Needs.{needs}
 use Rattle.control.proofs.owner.with_stage.Statement.{statement}
 use Rattle.control.proofs.owner.with_stage.Tie as tie
-use Rattle.control.proofs.owner.with_stage.Reads as reads
-use Rattle.control.proofs.owner.with_stage.Lts as lts
 
 mul-s : tie.Need-mul-s
 mul-s c = search needs

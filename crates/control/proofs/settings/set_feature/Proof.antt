@@ -1,3 +1,4 @@
+-- `control::settings::set_feature` meets its contract.
 use mathlib.Core.Path.{refl, sym, ap, _∙_}
 use Rattle.model.specs.Device.{Settings}
 use Rattle.model.specs.Update.{withSettings, withThermal}
@@ -9,20 +10,13 @@ use Rattle.control.proofs.SettingsLaws.{interval-emptied, other-kept}
 use borrow.Author.Needs.{needs}
 use Rattle.control.proofs.settings.set_feature.Statement.{statement}
 use Rattle.control.proofs.settings.set_feature.Tie as tie
-use Rattle.control.proofs.settings.set_feature.Reads as reads
-use Rattle.control.proofs.settings.set_feature.Lts as lts
-use Rattle.control.proofs.settings.is_interval.Reads as is-interval-reads
-use Rattle.control.proofs.settings.with_feature.Reads as with-feature-reads
 
--- src/settings.rt:106:9
 with-feature-requires : tie.Need-with-feature-requires
 with-feature-requires c κs = search needs
 
--- src/settings.rt:109:8
 is-interval-requires : tie.Need-is-interval-requires
 is-interval-requires c κs = search needs
 
--- src/settings.rt:114:9
 returns : tie.Need-returns
 unfolding historyEmptied
 returns c =
@@ -37,7 +31,6 @@ returns c =
       four = refl;
     }
 
--- src/settings.rt:101:1
 returns-2 : tie.Need-returns-2
 returns-2 c =
     let a = c .before .before .before .before .args in

@@ -1,3 +1,4 @@
+-- `control::settings::set_timer` meets its contract.
 use mathlib.Core.Path.{refl, ap}
 use Rattle.model.specs.Device.{Settings}
 use Rattle.model.specs.Update.{withSettings}
@@ -5,15 +6,10 @@ use Rattle.record.specs.Meaning.{asDevice}
 use borrow.Author.Needs.{needs}
 use Rattle.control.proofs.settings.set_timer.Statement.{statement}
 use Rattle.control.proofs.settings.set_timer.Tie as tie
-use Rattle.control.proofs.settings.set_timer.Reads as reads
-use Rattle.control.proofs.settings.set_timer.Lts as lts
-use Rattle.control.proofs.settings.with_timer.Reads as with-timer-reads
 
--- src/settings.rt:38:9
 with-timer-requires : tie.Need-with-timer-requires
 with-timer-requires c κs = search needs
 
--- src/settings.rt:34:1
 returns : tie.Need-returns
 returns c =
     let d = c .before .before .args .d in

@@ -1,3 +1,4 @@
+-- `control::settings::with_feature` meets its contract.
 use mathlib.Core.Path.{sym, _∙_}
 use Rattle.record.specs.Meaning.{asFeature, asSettings}
 use Rattle.command.specs.Meaning.{asFeatureName}
@@ -5,32 +6,23 @@ use Rattle.control.proofs.SettingsLaws.{cache-set, interval-set, reorde
 use borrow.Author.Needs.{needs}
 use Rattle.control.proofs.settings.with_feature.Statement.{statement}
 use Rattle.control.proofs.settings.with_feature.Tie as tie
-use Rattle.control.proofs.settings.with_feature.Reads as reads
-use Rattle.control.proofs.settings.with_feature.Lts as lts
-use Rattle.control.proofs.settings.is_cache.Reads as is-cache-reads
-use Rattle.control.proofs.settings.is_interval.Reads as is-interval-reads
 
--- src/settings.rt:88:8
 is-cache-requires : tie.Need-is-cache-requires
 is-cache-requires c κs = search needs
 
--- src/settings.rt:90:9
 returns : tie.Need-returns
 returns c =
     let a = c .before .before .args in
     cache-set (asFeatureName (a .name)) (asFeature (a .f)) (asSettings (a .s)) (sym (c .before .is-cache .ensures) ∙ c .if1 .taken)
 
--- src/settings.rt:92:8
 is-interval-requires : tie.Need-is-interval-requires
 is-interval-requires c κs = search needs
 
--- src/settings.rt:94:9
 returns-2 : tie.Need-returns-2
 returns-2 c =
     let a = c .before .before .before .before .args in
     interval-set (asFeatureName (a .name)) (asFeature (a .f)) (asSettings (a .s)) (sym (c .before .is-interval .ensures) ∙ c .if2 .taken)
 
--- src/settings.rt:84:1
 returns-3 : tie.Need-returns-3
 returns-3 c =
     let a = c .before .before .before .before .args in

@@ -1,3 +1,4 @@
+-- `control::settings::with_timer` meets its contract.
 use mathlib.Core.Path.{sym, _∙_}
 use Rattle.record.specs.Meaning.{asSettings}
 use Rattle.command.specs.Meaning.{asDirection}
@@ -5,21 +6,15 @@ use Rattle.control.proofs.SettingsLaws.{read-timer, write-timer}
 use borrow.Author.Needs.{needs}
 use Rattle.control.proofs.settings.with_timer.Statement.{statement}
 use Rattle.control.proofs.settings.with_timer.Tie as tie
-use Rattle.control.proofs.settings.with_timer.Reads as reads
-use Rattle.control.proofs.settings.with_timer.Lts as lts
-use Rattle.control.proofs.settings.is_read.Reads as is-read-reads
 
--- src/settings.rt:36:8
 is-read-requires : tie.Need-is-read-requires
 is-read-requires c κs = search needs
 
--- src/settings.rt:38:9
 returns : tie.Need-returns
 returns c =
     let a = c .before .before .args in
     read-timer (asDirection (a .dir)) (a .n) (asSettings (a .s)) (sym (c .before .is-read .ensures) ∙ c .if1 .taken)
 
--- src/settings.rt:32:1
 returns-2 : tie.Need-returns-2
 returns-2 c =
     let a = c .before .before .args in

@@ -1,9 +1,8 @@
+-- `control::thermal::logs` meets its contract.
 use Rattle.control.proofs.ThermalLaws.{logged-test}
 use borrow.Author.Needs.{needs}
 use Rattle.control.proofs.thermal.logs.Statement.{statement}
 use Rattle.control.proofs.thermal.logs.Tie as tie
-use Rattle.control.proofs.thermal.logs.Reads as reads
-use Rattle.control.proofs.thermal.logs.Lts as lts
 
 add-result : tie.Need-add-result
 add-result c = search needs

@@ -1,14 +1,10 @@
-use mathlib.Core.Path.{sym}
+-- `control::thermal::new_maximum` meets its contract.
 use borrow.Author.Tests.{eq-eqb, ne-eqb}
-use native.Mathlib.Omega.{arith}
 use Rattle.model.specs.Temperature.{newMaximum}
 use Rattle.control.proofs.ThermalLaws.{maximum-old, maximum-sample}
 use borrow.Author.Needs.{needs}
 use Rattle.control.proofs.thermal.new_maximum.Statement.{statement}
 use Rattle.control.proofs.thermal.new_maximum.Tie as tie
-use Rattle.control.proofs.thermal.new_maximum.Reads as reads
-use Rattle.control.proofs.thermal.new_maximum.Lts as lts
-use Rattle.control.proofs.thermal.shifted.Reads as shifted-reads
 
 returns : tie.Need-returns
 unfolding newMaximum

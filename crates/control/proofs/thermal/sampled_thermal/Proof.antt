@@ -1,15 +1,11 @@
-use mathlib.Core.Path.{_≡_, sym, _∙_}
+-- `control::thermal::sampled_thermal` meets its contract.
+use mathlib.Core.Path.{sym, _∙_}
 use borrow.Author.Tests.{not-true, not-false}
 use native.Mathlib.Omega.{arith}
 use Rattle.control.proofs.ThermalLaws.{sampled-logged, sampled-counted}
 use borrow.Author.Needs.{needs}
 use Rattle.control.proofs.thermal.sampled_thermal.Statement.{statement}
 use Rattle.control.proofs.thermal.sampled_thermal.Tie as tie
-use Rattle.control.proofs.thermal.sampled_thermal.Reads as reads
-use Rattle.control.proofs.thermal.sampled_thermal.Lts as lts
-use Rattle.control.proofs.thermal.logs.Reads as logs-reads
-use Rattle.control.proofs.thermal.new_maximum.Reads as new-maximum-reads
-use Rattle.control.proofs.thermal.next_index.Reads as next-index-reads
 
 new-maximum-requires : tie.Need-new-maximum-requires
 new-maximum-requires c κs = search needs

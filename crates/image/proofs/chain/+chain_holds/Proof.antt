@@ -1,3 +1,4 @@
+-- `image::chain::chain_holds` meets its contract.
 use mathlib.Core.Path.{sym, _∙_}
 use native.Mathlib.Omega.{arith}
 use borrow.Author.Needs.{needs}
@@ -25,7 +26,6 @@ abbrev chain-holds-below : ℕ → In 2 chain-holds-kinds.ps
 chain-holds-below t =
     and 2 chain-holds-kinds.ps (falls 2 chain-holds-kinds.ps _<_ μ-chain-holds t) chain-holds.Pre
 
--- src/chain.rt:17:9
 chain-holds-returns : (t : ℕ) → chain-holds-lts.Need-returns (
   entry-holds-reads.Asked,
   entry-holds-reads.Learnt,
@@ -36,7 +36,6 @@ chain-holds-returns : (t : ℕ) → chain-holds-lts.Need-returns (
 ) (chain-holds-at t) chain-holds.Post
 chain-holds-returns t c = chain-none _ _ _ _ (c .if1 .taken)
 
--- src/chain.rt:19:14
 chain-holds-mul-if2 : (t : ℕ) → chain-holds-lts.Need-mul-if2 (
   entry-holds-reads.Asked,
   entry-holds-reads.Learnt,
@@ -47,7 +46,6 @@ chain-holds-mul-if2 : (t : ℕ) → chain-holds-lts.Need-mul-if2 (
 ) (chain-holds-at t) chain-holds.Post
 chain-holds-mul-if2 t c = search needs
 
--- src/chain.rt:19:14
 chain-holds-sub-if2 : (t : ℕ) → chain-holds-lts.Need-sub-if2 (
   entry-holds-reads.Asked,
   entry-holds-reads.Learnt,
@@ -58,7 +56,6 @@ chain-holds-sub-if2 : (t : ℕ) → chain-holds-lts.Need-sub-if2 (
 ) (chain-holds-at t) chain-holds.Post
 chain-holds-sub-if2 t c = search needs
 
--- src/chain.rt:20:9
 chain-holds-returns-2 : (t : ℕ) → chain-holds-lts.Need-returns-2 (
   entry-holds-reads.Asked,
   entry-holds-reads.Learnt,
@@ -69,7 +66,6 @@ chain-holds-returns-2 : (t : ℕ) → chain-holds-lts.Need-returns-2 (
 ) (chain-holds-at t) chain-holds.Post
 chain-holds-returns-2 t c = let left = c .before .if1 .left in chain-astray _ _ _ _ (omega arith) (c .if2 .taken)
 
--- src/chain.rt:22:9
 chain-holds-entry-holds-requires : (t : ℕ) → chain-holds-lts.Need-entry-holds-requires (
   entry-holds-reads.Asked,
   entry-holds-reads.Learnt,
@@ -83,7 +79,6 @@ chain-holds-entry-holds-requires t c κs =
     let p = c .before .before .before .pre .1 in
     ((omega arith, p .0, c .before .if2 .left), p .1)
 
--- src/chain.rt:23:9
 chain-holds-returns-3 : (t : ℕ) → chain-holds-lts.Need-returns-3 (
   entry-holds-reads.Asked,
   entry-holds-reads.Learnt,
@@ -96,7 +91,6 @@ chain-holds-returns-3 t c =
     let some = c .before .before .before .before .if1 .left in
     chain-broken _ _ _ _ (omega arith) (c .before .before .before .if2 .left) (sym (c .before .entry-holds .ensures) ∙ not-true _ (c .if3 .taken))
 
--- src/chain.rt:25:39
 chain-holds-add-u32-at : (t : ℕ) → chain-holds-lts.Need-add-u32-at (
   entry-holds-reads.Asked,
   entry-holds-reads.Learnt,
@@ -107,7 +101,6 @@ chain-holds-add-u32-at : (t : ℕ) → chain-holds-lts.Need-add-u32-at (
 ) (chain-holds-at t) chain-holds.Post
 chain-holds-add-u32-at t c = omega arith
 
--- src/chain.rt:25:9
 chain-holds-u32-at-requires : (t : ℕ) → chain-holds-lts.Need-u32-at-requires (
   entry-holds-reads.Asked,
   entry-holds-reads.Learnt,
@@ -122,7 +115,6 @@ chain-holds-u32-at-requires t c κs =
     let p = c .before .before .before .before .before .before .pre .1 in
     omega (arith, p .1)
 
--- src/chain.rt:26:32
 chain-holds-cast-chain-holds : (t : ℕ) → chain-holds-lts.Need-cast-chain-holds (
   entry-holds-reads.Asked,
   entry-holds-reads.Learnt,
@@ -133,7 +125,6 @@ chain-holds-cast-chain-holds : (t : ℕ) → chain-holds-lts.Need-cast-chain-hol
 ) (chain-holds-at t) chain-holds.Post
 chain-holds-cast-chain-holds t c = search needs
 
--- src/chain.rt:26:49
 chain-holds-sub-chain-holds : (t : ℕ) → chain-holds-lts.Need-sub-chain-holds (
   entry-holds-reads.Asked,
   entry-holds-reads.Learnt,
@@ -144,7 +135,6 @@ chain-holds-sub-chain-holds : (t : ℕ) → chain-holds-lts.Need-sub-chain-holds
 ) (chain-holds-at t) chain-holds.Post
 chain-holds-sub-chain-holds t c = omega arith
 
--- src/chain.rt:26:5
 chain-holds-chain-holds-requires : (t : ℕ) → chain-holds-lts.Need-chain-holds-requires (
   entry-holds-reads.Asked,
   entry-holds-reads.Learnt,
@@ -158,7 +148,6 @@ chain-holds-chain-holds-requires t c κs =
     let p = c .before .before .before .before .before .before .before .pre in
     (omega (arith, p .0), (omega (arith, p .1 .0), omega (arith, p .1 .1)))
 
--- src/chain.rt:11:1
 chain-holds-returns-4 : (t : ℕ) → chain-holds-lts.Need-returns-4 (
   entry-holds-reads.Asked,
   entry-holds-reads.Learnt,

@@ -1,47 +1,35 @@
+-- `image::chain::readable` meets its contract.
 use mathlib.Core.Path.{_∙_}
 use native.Mathlib.Omega.{arith}
 use Rattle.image.proofs.ChainLaws.{readable-uneven, readable-long, readable-empty, readable-chain}
 use borrow.Author.Needs.{needs}
 use Rattle.image.proofs.chain.readable.Statement.{statement}
 use Rattle.image.proofs.chain.readable.Tie as tie
-use Rattle.image.proofs.chain.readable.Reads as reads
-use Rattle.image.proofs.chain.readable.Lts as lts
-use Rattle.image.proofs.chain.chain_holds.Reads as chain-holds-reads
-use Rattle.wire.proofs.u64_at.Reads as u64-at-reads
 
--- src/chain.rt:35:9
 returns : tie.Need-returns
 returns c = readable-uneven _ _ (c .if1 .taken)
 
--- src/chain.rt:38:9
 returns-2 : tie.Need-returns-2
 returns-2 c = readable-long _ _ (c .before .if1 .left) (c .if2 .taken)
 
--- src/chain.rt:41:9
 returns-3 : tie.Need-returns-3
 returns-3 c = readable-empty _ _ (c .if3 .taken)
 
--- src/chain.rt:43:38
 sub-u64-at : tie.Need-sub-u64-at
 sub-u64-at c = search needs
 
--- src/chain.rt:43:9
 u64-at-requires : tie.Need-u64-at-requires
 u64-at-requires c κs = search needs
 
--- src/chain.rt:44:33
 sub-chain-holds : tie.Need-sub-chain-holds
 sub-chain-holds c = search needs
 
--- src/chain.rt:44:44
 cast-chain-holds : tie.Need-cast-chain-holds
 cast-chain-holds c = search needs
 
--- src/chain.rt:44:5
 chain-holds-requires : tie.Need-chain-holds-requires
 chain-holds-requires c κs = search needs
 
--- src/chain.rt:30:1
 returns-4 : tie.Need-returns-4
 returns-4 c =
     let some = c .before .before .before .if3 .left in

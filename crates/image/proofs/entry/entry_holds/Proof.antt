@@ -1,35 +1,25 @@
+-- `image::entry::entry_holds` meets its contract.
 use native.Mathlib.Omega.{arith}
 use Rattle.image.proofs.EntryInPlace.{entry-in-place}
 use borrow.Author.Needs.{needs}
 use Rattle.image.proofs.entry.entry_holds.Statement.{statement}
 use Rattle.image.proofs.entry.entry_holds.Tie as tie
-use Rattle.image.proofs.entry.entry_holds.Reads as reads
-use Rattle.image.proofs.entry.entry_holds.Lts as lts
-use Rattle.image.proofs.entry.body_holds.Reads as body-holds-reads
-use Rattle.image.proofs.entry.trailer_holds.Reads as trailer-holds-reads
-use Rattle.wire.proofs.u64_at.Reads as u64-at-reads
 
--- src/entry.rt:87:34
 sub-body-holds : tie.Need-sub-body-holds
 sub-body-holds c = search needs
 
--- src/entry.rt:87:9
 body-holds-requires : tie.Need-body-holds-requires
 body-holds-requires c κs = search needs
 
--- src/entry.rt:88:37
 sub-u64-at : tie.Need-sub-u64-at
 sub-u64-at c = search needs
 
--- src/entry.rt:88:9
 u64-at-requires : tie.Need-u64-at-requires
 u64-at-requires c κs = search needs
 
--- src/entry.rt:89:9
 trailer-holds-requires : tie.Need-trailer-holds-requires
 trailer-holds-requires c κs = search needs
 
--- src/entry.rt:82:1
 returns : tie.Need-returns
 returns c =
     let a = c .before .before .before .before .args in

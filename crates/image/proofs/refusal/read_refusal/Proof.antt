@@ -1,3 +1,4 @@
+-- `image::refusal::read_refusal` meets its contract.
 use mathlib.Core.Path.{sym, _∙_}
 use mathlib.Core.Bool.{true, false}
 use borrow.Author.Tests.{not-true, not-false}
@@ -5,34 +6,24 @@ use Rattle.image.proofs.RefusalLaws.{read-long, read-bad, read-disk}
 use borrow.Author.Needs.{needs}
 use Rattle.image.proofs.refusal.read_refusal.Statement.{statement}
 use Rattle.image.proofs.refusal.read_refusal.Tie as tie
-use Rattle.image.proofs.refusal.read_refusal.Reads as reads
-use Rattle.image.proofs.refusal.read_refusal.Lts as lts
-use Rattle.image.proofs.chain.readable.Reads as readable-reads
-use Rattle.image.proofs.refusal.same_disk.Reads as same-disk-reads
 
--- src/refusal.rt:28:9
 returns : tie.Need-returns
 returns c = let a = c .before .before .args in read-long (a .native) (a .image .now) (a .used) (c .if1 .taken)
 
--- src/refusal.rt:30:9
 readable-requires : tie.Need-readable-requires
 readable-requires c κs = search needs
 
--- src/refusal.rt:31:9
 returns-2 : tie.Need-returns-2
 returns-2 c = let a = c .before .before .before .before .args in read-bad (a .native) (a .image .now) (a .used) (c .before .before .if1 .left) (sym (c .before .readable .ensures) ∙ not-true _ (c .if2 .taken))
 
--- src/refusal.rt:33:9
 same-disk-requires : tie.Need-same-disk-requires
 same-disk-requires c κs = (c .before .before .if1 .left, sym (c .before .readable .ensures) ∙ not-false _ (c .if2 .left))
 
--- src/refusal.rt:34:9
 returns-3 : tie.Need-returns-3
 returns-3 c =
     let a = c .before .before .before .before .before .before .args in
     read-disk (a .native) (a .image .now) (a .used) (c .before .before .before .before .if1 .left) (sym (c .before .before .before .readable .ensures) ∙ not-false _ (c .before .before .if2 .left)) false (sym (c .before .same-disk .ensures) ∙ not-true _ (c .if3 .taken))
 
--- src/refusal.rt:24:1
 returns-4 : tie.Need-returns-4
 returns-4 c =
     let a = c .before .before .before .before .before .before .args in

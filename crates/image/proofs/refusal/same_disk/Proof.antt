@@ -1,26 +1,20 @@
+-- `image::refusal::same_disk` meets its contract.
 use native.Mathlib.Omega.{arith}
 use Rattle.image.proofs.RefusalLaws.{disk-empty, entry-before, disk-newest}
 use Rattle.image.proofs.refusal.same_disk.Statement.{statement}
 use Rattle.image.proofs.refusal.same_disk.Tie as tie
-use Rattle.image.proofs.refusal.same_disk.Reads as reads
-use Rattle.image.proofs.refusal.same_disk.Lts as lts
-use Rattle.wire.proofs.u64_at.Reads as u64-at-reads
 
--- src/refusal.rt:17:9
 returns : tie.Need-returns
 returns c = let a = c .before .before .args in disk-empty (a .native) (a .image .now) (a .used) (c .if1 .taken)
 
--- src/refusal.rt:19:38
 sub-u64-at : tie.Need-sub-u64-at
 sub-u64-at c = let a = c .before .before .args in entry-before (a .image .now) (a .used) (c .before .before .pre .1) (c .if1 .left)
 
--- src/refusal.rt:19:9
 u64-at-requires : tie.Need-u64-at-requires
 u64-at-requires c κs =
     let a = c .before .before .args in
     omega (arith, entry-before (a .image .now) (a .used) (c .before .before .pre .1) (c .if1 .left), c .before .before .pre .0)
 
--- src/refusal.rt:12:1
 returns-2 : tie.Need-returns-2
 returns-2 c =
     let a = c .before .before .before .args in

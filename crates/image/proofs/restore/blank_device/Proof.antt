@@ -1,22 +1,16 @@
+-- `image::restore::blank_device` meets its contract.
 use mathlib.Core.Path.{refl}
 use Rattle.model.specs.Image.{blank}
 use borrow.Author.Needs.{needs}
 use Rattle.image.proofs.restore.blank_device.Statement.{statement}
 use Rattle.image.proofs.restore.blank_device.Tie as tie
-use Rattle.image.proofs.restore.blank_device.Reads as reads
-use Rattle.image.proofs.restore.blank_device.Lts as lts
-use Rattle.image.proofs.restore.powered.Reads as powered-reads
-use Rattle.record.proofs.device.Settings.power_on.Reads as power-on-reads
 
--- src/restore.rt:106:42
 power-on-requires : tie.Need-power-on-requires
 power-on-requires c κs = search needs
 
--- src/restore.rt:106:5
 powered-requires : tie.Need-powered-requires
 powered-requires c κs = search needs
 
--- src/restore.rt:98:1
 returns : tie.Need-returns
 returns c = (c .powered .ensures .0 (blank (c .before .before .args .native)) refl refl refl refl (c .before .power-on .ensures) refl, c .powered .ensures .1)
 

@@ -1,35 +1,27 @@
+-- `image::restore::kept_index` meets its contract.
 use mathlib.Core.Path.{sym, _∙_}
 use borrow.Author.Tests.{eq-eqb, ne-eqb}
 use Rattle.image.specs.InPlace.{savedAt}
 use borrow.Author.Needs.{needs}
 use Rattle.image.proofs.restore.kept_index.Statement.{statement}
 use Rattle.image.proofs.restore.kept_index.Tie as tie
-use Rattle.image.proofs.restore.kept_index.Reads as reads
-use Rattle.image.proofs.restore.kept_index.Lts as lts
-use Rattle.wire.proofs.u16_at.Reads as u16-at-reads
 
--- src/restore.rt:114:40
 add-u16-at : tie.Need-add-u16-at
 add-u16-at c = search needs
 
--- src/restore.rt:114:20
 u16-at-requires : tie.Need-u16-at-requires
 u16-at-requires c κs = search needs
 
--- src/restore.rt:115:29
 add-u16-at-2 : tie.Need-add-u16-at-2
 add-u16-at-2 c = search needs
 
--- src/restore.rt:115:9
 u16-at-requires-2 : tie.Need-u16-at-requires-2
 u16-at-requires-2 c κs = search needs
 
--- src/restore.rt:110:1
 returns : tie.Need-returns
 unfolding savedAt
 returns c = rw (c .u16-at2 .ensures, eq-eqb _ _ (c .before .if1 .taken ∙ c .before .before .u16-at .ensures))
 
--- src/restore.rt:110:1
 returns-2 : tie.Need-returns-2
 unfolding savedAt
 returns-2 c = rw (ne-eqb _ _ (λ e. c .if1 .left (e ∙ sym (c .before .u16-at .ensures))))

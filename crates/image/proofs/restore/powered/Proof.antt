@@ -1,12 +1,10 @@
+-- `image::restore::powered` meets its contract.
 use mathlib.Core.Path.{refl}
 use Rattle.record.specs.Meaning.{asSettings}
 use Rattle.image.proofs.RestoreLaws.{powered-is}
 use Rattle.image.proofs.restore.powered.Statement.{statement}
 use Rattle.image.proofs.restore.powered.Tie as tie
-use Rattle.image.proofs.restore.powered.Reads as reads
-use Rattle.image.proofs.restore.powered.Lts as lts
 
--- src/restore.rt:50:1
 returns : tie.Need-returns
 returns c =
     let a = c .args in

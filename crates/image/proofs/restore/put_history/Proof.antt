@@ -1,40 +1,30 @@
+-- `image::restore::put_history` meets its contract.
 use mathlib.Core.Path.{sym, _∙_}
 use Rattle.image.proofs.RestoreLaws.{history-copied, history-left}
 use borrow.Author.Needs.{needs}
 use Rattle.image.proofs.restore.put_history.Statement.{statement}
 use Rattle.image.proofs.restore.put_history.Tie as tie
-use Rattle.image.proofs.restore.put_history.Reads as reads
-use Rattle.image.proofs.restore.put_history.Lts as lts
-use Rattle.wire.proofs.u16_at.Reads as u16-at-reads
-use Rattle.wire.proofs.copy_part.Reads as copy-part-reads
 
--- src/restore.rt:147:40
 add-u16-at : tie.Need-add-u16-at
 add-u16-at c = search needs
 
--- src/restore.rt:147:20
 u16-at-requires : tie.Need-u16-at-requires
 u16-at-requires c κs = search needs
 
--- src/restore.rt:148:40
 add-copy-part : tie.Need-add-copy-part
 add-copy-part c = search needs
 
--- src/restore.rt:148:9
 copy-part-requires : tie.Need-copy-part-requires
 copy-part-requires c κs = search needs
 
--- src/restore.rt:142:1
 same-length : tie.Need-same-length
 same-length c = search needs
 
--- src/restore.rt:142:1
 returns : tie.Need-returns
 returns c =
     let a = c .before .before .before .before .before .before .before .before .args in
     rw (c .before .before .copy-part .ensures) (history-copied (a .r .now) (a .image .now) (a .at) (a .interval) (c .before .before .before .before .before .before .before .before .pre .0) (c .before .before .before .before .if1 .taken ∙ c .before .before .before .before .before .u16-at .ensures) (c .before .before .before .before .before .before .before .before .pre .1))
 
--- src/restore.rt:142:1
 returns-2 : tie.Need-returns-2
 returns-2 c =
     let a = c .before .before .before .before .args in

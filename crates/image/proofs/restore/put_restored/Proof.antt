@@ -1,3 +1,4 @@
+-- `image::restore::put_restored` meets its contract.
 use mathlib.Core.Path.{ap, _∙_}
 use native.Mathlib.Omega.{arith}
 use Rattle.model.specs.Image.{Saved}
@@ -8,41 +9,30 @@ use Rattle.image.proofs.RestoreLaws.{restored-blank, restored-newest}
 use borrow.Author.Needs.{needs}
 use Rattle.image.proofs.restore.put_restored.Statement.{statement}
 use Rattle.image.proofs.restore.put_restored.Tie as tie
-use Rattle.image.proofs.restore.put_restored.Reads as reads
-use Rattle.image.proofs.restore.put_restored.Lts as lts
-use Rattle.image.proofs.restore.restore_blank.Reads as restore-blank-reads
-use Rattle.image.proofs.restore.restore_entry.Reads as restore-entry-reads
 
--- src/restore.rt:181:9
 restore-blank-requires : tie.Need-restore-blank-requires
 restore-blank-requires c κs = search needs
 
--- src/restore.rt:183:33
 sub-restore-entry : tie.Need-sub-restore-entry
 sub-restore-entry c = let a = c .before .before .before .before .args in read-entry (a .native) (a .image .now) (a .used) (c .before .before .before .before .pre .1) (c .before .if1 .left) .0
 
--- src/restore.rt:183:9
 restore-entry-requires : tie.Need-restore-entry-requires
 restore-entry-requires c κs =
     let a = c .before .before .before .before .args in
     let within = read-entry (a .native) (a .image .now) (a .used) (c .before .before .before .before .pre .1) (c .before .if1 .left) in
     (c .before .before .before .before .pre .0, omega (arith, within .0, within .1))
 
--- src/restore.rt:175:1
 same-length : tie.Need-same-length
 same-length c = search needs
 
--- src/restore.rt:175:1
 returns : tie.Need-returns
 returns c =
     let a = c .before .before .before .before .before .before .before .args in
     c .before .before .restore-blank .ensures ∙ ap (λ (s : Saved). encode (restoredContents s)) (restored-blank (a .native) (a .image .now) (a .used) (c .before .before .before .before .if1 .taken))
 
--- src/restore.rt:175:1
 same-length-2 : tie.Need-same-length-2
 same-length-2 c = search needs
 
--- src/restore.rt:175:1
 returns-2 : tie.Need-returns-2
 returns-2 c =
     let a = c .before .before .before .before .before .before .before .args in

@@ -1,3 +1,4 @@
+-- `image::restore::restore_blank` meets its contract.
 use mathlib.Core.Path.{ap, _∙_}
 use mathlib.Core.List.{List}
 use Prim.Native.Nat.{ℕ}
@@ -9,29 +10,19 @@ use Rattle.image.proofs.RestoreLaws.{restored-encoded}
 use borrow.Author.Needs.{needs}
 use Rattle.image.proofs.restore.restore_blank.Statement.{statement}
 use Rattle.image.proofs.restore.restore_blank.Tie as tie
-use Rattle.image.proofs.restore.restore_blank.Reads as reads
-use Rattle.image.proofs.restore.restore_blank.Lts as lts
-use Rattle.image.proofs.restore.blank_device.Reads as blank-device-reads
-use Rattle.record.proofs.frame.Reads as frame-reads
-use Rattle.record.proofs.write.Reads as write-reads
 
--- src/restore.rt:157:9
 blank-device-requires : tie.Need-blank-device-requires
 blank-device-requires c κs = search needs
 
--- src/restore.rt:158:5
 frame-requires : tie.Need-frame-requires
 frame-requires c κs = search needs
 
--- src/restore.rt:159:5
 write-requires : tie.Need-write-requires
 write-requires c κs = search needs
 
--- src/restore.rt:153:1
 same-length : tie.Need-same-length
 same-length c = search needs
 
--- src/restore.rt:153:1
 returns : tie.Need-returns
 returns c =
     let d = c .before .before .before .before .before .before .before .before .blank-device .result in

@@ -1,3 +1,4 @@
+-- `image::restore::restore_entry` meets its contract.
 use mathlib.Core.Path.{ap, _∙_}
 use mathlib.Core.List.{List}
 use Prim.Native.Nat.{ℕ}
@@ -9,34 +10,22 @@ use Rattle.image.proofs.RestoreLaws.{history-kept, restored-encoded}
 use borrow.Author.Needs.{needs}
 use Rattle.image.proofs.restore.restore_entry.Statement.{statement}
 use Rattle.image.proofs.restore.restore_entry.Tie as tie
-use Rattle.image.proofs.restore.restore_entry.Reads as reads
-use Rattle.image.proofs.restore.restore_entry.Lts as lts
-use Rattle.image.proofs.restore.put_history.Reads as put-history-reads
-use Rattle.image.proofs.restore.saved_device.Reads as saved-device-reads
-use Rattle.record.proofs.frame.Reads as frame-reads
-use Rattle.record.proofs.write.Reads as write-reads
 
--- src/restore.rt:167:9
 saved-device-requires : tie.Need-saved-device-requires
 saved-device-requires c κs = search needs
 
--- src/restore.rt:169:5
 frame-requires : tie.Need-frame-requires
 frame-requires c κs = search needs
 
--- src/restore.rt:170:5
 put-history-requires : tie.Need-put-history-requires
 put-history-requires c κs = search needs
 
--- src/restore.rt:171:5
 write-requires : tie.Need-write-requires
 write-requires c κs = search needs
 
--- src/restore.rt:163:1
 same-length : tie.Need-same-length
 same-length c = search needs
 
--- src/restore.rt:163:1
 returns : tie.Need-returns
 returns c =
     let a = c .before .before .before .before .before .before .before .before .before .before .before .before .before .before .before .args in

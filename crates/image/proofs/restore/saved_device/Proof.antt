@@ -1,3 +1,4 @@
+-- `image::restore::saved_device` meets its contract.
 use mathlib.Core.Path.{ap}
 use Prim.Native.Nat.{ℕ}
 use lib.Dec.{eqb}
@@ -6,55 +7,37 @@ use Rattle.image.proofs.RestoreLaws.{index-kept}
 use borrow.Author.Needs.{needs}
 use Rattle.image.proofs.restore.saved_device.Statement.{statement}
 use Rattle.image.proofs.restore.saved_device.Tie as tie
-use Rattle.image.proofs.restore.saved_device.Reads as reads
-use Rattle.image.proofs.restore.saved_device.Lts as lts
-use Rattle.image.proofs.restore.kept_index.Reads as kept-index-reads
-use Rattle.image.proofs.restore.powered.Reads as powered-reads
-use Rattle.image.proofs.restore.saved_settings.Reads as saved-settings-reads
-use Rattle.wire.proofs.u64_at.Reads as u64-at-reads
-use Rattle.wire.proofs.u8_at.Reads as u8-at-reads
 
--- src/restore.rt:127:9
 u64-at-requires : tie.Need-u64-at-requires
 u64-at-requires c κs = search needs
 
--- src/restore.rt:128:39
 add-u64-at : tie.Need-add-u64-at
 add-u64-at c = search needs
 
--- src/restore.rt:128:9
 u64-at-requires-2 : tie.Need-u64-at-requires-2
 u64-at-requires-2 c κs = search needs
 
--- src/restore.rt:129:42
 add-u8-at : tie.Need-add-u8-at
 add-u8-at c = search needs
 
--- src/restore.rt:129:23
 u8-at-requires : tie.Need-u8-at-requires
 u8-at-requires c κs = search needs
 
--- src/restore.rt:130:35
 add-u8-at-2 : tie.Need-add-u8-at-2
 add-u8-at-2 c = search needs
 
--- src/restore.rt:130:9
 u8-at-requires-2 : tie.Need-u8-at-requires-2
 u8-at-requires-2 c κs = search needs
 
--- src/restore.rt:131:9
 saved-settings-requires : tie.Need-saved-settings-requires
 saved-settings-requires c κs = search needs
 
--- src/restore.rt:133:9
 kept-index-requires : tie.Need-kept-index-requires
 kept-index-requires c κs = search needs
 
--- src/restore.rt:134:5
 powered-requires : tie.Need-powered-requires
 powered-requires c κs = search needs
 
--- src/restore.rt:122:1
 returns : tie.Need-returns
 unfolding savedAt
 returns c =

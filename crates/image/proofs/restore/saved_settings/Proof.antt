@@ -1,63 +1,45 @@
+-- `image::restore::saved_settings` meets its contract.
 use Rattle.image.specs.InPlace.{savedAt}
 use borrow.Author.Needs.{needs}
 use Rattle.image.proofs.restore.saved_settings.Statement.{statement}
 use Rattle.image.proofs.restore.saved_settings.Tie as tie
-use Rattle.image.proofs.restore.saved_settings.Reads as reads
-use Rattle.image.proofs.restore.saved_settings.Lts as lts
-use Rattle.image.proofs.restore.has_bit.Reads as has-bit-reads
-use Rattle.record.proofs.device.Settings.power_on.Reads as power-on-reads
-use Rattle.wire.proofs.u16_at.Reads as u16-at-reads
-use Rattle.wire.proofs.u8_at.Reads as u8-at-reads
 
--- src/restore.rt:33:38
 add-u8-at : tie.Need-add-u8-at
 add-u8-at c = search needs
 
--- src/restore.rt:33:9
 u8-at-requires : tie.Need-u8-at-requires
 u8-at-requires c κs = search needs
 
--- src/restore.rt:35:36
 add-u16-at : tie.Need-add-u16-at
 add-u16-at c = search needs
 
--- src/restore.rt:35:16
 u16-at-requires : tie.Need-u16-at-requires
 u16-at-requires c κs = search needs
 
--- src/restore.rt:36:21
 has-bit-requires : tie.Need-has-bit-requires
 has-bit-requires c κs = search needs
 
--- src/restore.rt:39:36
 add-u16-at-2 : tie.Need-add-u16-at-2
 add-u16-at-2 c = search needs
 
--- src/restore.rt:39:16
 u16-at-requires-2 : tie.Need-u16-at-requires-2
 u16-at-requires-2 c κs = search needs
 
--- src/restore.rt:40:21
 has-bit-requires-2 : tie.Need-has-bit-requires-2
 has-bit-requires-2 c κs = search needs
 
--- src/restore.rt:43:36
 add-u16-at-3 : tie.Need-add-u16-at-3
 add-u16-at-3 c = search needs
 
--- src/restore.rt:43:16
 u16-at-requires-3 : tie.Need-u16-at-requires-3
 u16-at-requires-3 c κs = search needs
 
--- src/restore.rt:44:21
 has-bit-requires-3 : tie.Need-has-bit-requires-3
 has-bit-requires-3 c κs = search needs
 
--- src/restore.rt:46:5
 power-on-requires : tie.Need-power-on-requires
 power-on-requires c κs = search needs
 
--- src/restore.rt:29:1
 returns : tie.Need-returns
 unfolding savedAt
 returns c = rw (c .power-on .ensures, c .before .before .before .before .before .has-bit .ensures, c .before .before .before .has-bit2 .ensures, c .before .has-bit3 .ensures, c .before .before .before .before .before .before .u16-at .ensures, c .before .before .before .before .u16-at2 .ensures, c .before .before .u16-at3 .ensures, c .before .before .before .before .before .before .before .u8-at .ensures)

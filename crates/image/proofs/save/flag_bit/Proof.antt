@@ -1,21 +1,16 @@
+-- `image::save::flag_bit` meets its contract.
 use native.Mathlib.Omega.{arith}
 use borrow.Author.Tests.{ne-eqb}
 use borrow.Author.Needs.{needs}
 use Rattle.image.proofs.save.flag_bit.Statement.{statement}
 use Rattle.image.proofs.save.flag_bit.Tie as tie
-use Rattle.image.proofs.save.flag_bit.Reads as reads
-use Rattle.image.proofs.save.flag_bit.Lts as lts
-use Rattle.wire.proofs.u8_at.Reads as u8-at-reads
 
--- src/save.rt:37:8
 u8-at-requires : tie.Need-u8-at-requires
 u8-at-requires c κs = search needs
 
--- src/save.rt:32:1
 returns : tie.Need-returns
 returns c = (rw (← c .before .u8-at .ensures, c .if1 .taken), omega arith)
 
--- src/save.rt:32:1
 returns-2 : tie.Need-returns-2
 returns-2 c = (rw (← c .before .u8-at .ensures, ne-eqb _ _ (c .if1 .left)), omega arith)
 

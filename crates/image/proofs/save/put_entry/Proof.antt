@@ -1,53 +1,38 @@
+-- `image::save::put_entry` meets its contract.
 use native.Mathlib.Omega.{arith}
 use Rattle.store.proofs.SoundLaws.{sound-parts}
 use Rattle.image.proofs.SaveLaws.{entry-stored}
 use borrow.Author.Needs.{needs}
 use Rattle.image.proofs.save.put_entry.Statement.{statement}
 use Rattle.image.proofs.save.put_entry.Tie as tie
-use Rattle.image.proofs.save.put_entry.Reads as reads
-use Rattle.image.proofs.save.put_entry.Lts as lts
-use Rattle.image.proofs.save.put_features.Reads as put-features-reads
-use Rattle.image.proofs.save.put_sizes.Reads as put-sizes-reads
-use Rattle.image.proofs.save.put_trailer.Reads as put-trailer-reads
-use Rattle.wire.proofs.copy_part.Reads as copy-part-reads
 
--- src/save.rt:83:5
 put-sizes-requires : tie.Need-put-sizes-requires
 put-sizes-requires c κs = (omega arith, sound-parts _ (c .before .before .before .pre .0) .size)
 
--- src/save.rt:84:5
 put-features-requires : tie.Need-put-features-requires
 put-features-requires c κs = (omega arith, sound-parts _ (c .before .before .before .before .before .before .before .pre .0) .size)
 
--- src/save.rt:85:28
 add-copy-part : tie.Need-add-copy-part
 add-copy-part c = search needs
 
--- src/save.rt:85:5
 copy-part-requires : tie.Need-copy-part-requires
 copy-part-requires c κs = (omega arith, omega (arith, sound-parts _ (c .before .before .before .before .before .before .before .before .before .before .before .pre .0) .size))
 
--- src/save.rt:86:24
 add-put-trailer : tie.Need-add-put-trailer
 add-put-trailer c = search needs
 
--- src/save.rt:86:36
 cast-put-trailer : tie.Need-cast-put-trailer
 cast-put-trailer c = search needs
 
--- src/save.rt:86:36
 add-put-trailer-2 : tie.Need-add-put-trailer-2
 add-put-trailer-2 c = search needs
 
--- src/save.rt:86:5
 put-trailer-requires : tie.Need-put-trailer-requires
 put-trailer-requires c κs = search needs
 
--- src/save.rt:78:1
 same-length : tie.Need-same-length
 same-length c = search needs
 
--- src/save.rt:78:1
 returns : tie.Need-returns
 returns c =
     let a = c .before .before .before .before .before .before .before .before .before .before .before .before .before .before .before .before .before .before .args in

@@ -1,66 +1,47 @@
+-- `image::save::put_features` meets its contract.
 use borrow.Author.Needs.{needs}
 use Rattle.image.proofs.save.put_features.Statement.{statement}
 use Rattle.image.proofs.save.put_features.Tie as tie
-use Rattle.image.proofs.save.put_features.Reads as reads
-use Rattle.image.proofs.save.put_features.Lts as lts
-use Rattle.image.proofs.save.options.Reads as options-reads
-use Rattle.wire.proofs.put_u16.Reads as put-u16-reads
-use Rattle.wire.proofs.put_u8.Reads as put-u8-reads
-use Rattle.wire.proofs.u16_at.Reads as u16-at-reads
 
--- src/save.rt:71:26
 add-put-u16 : tie.Need-add-put-u16
 add-put-u16 c = search needs
 
--- src/save.rt:71:35
 u16-at-requires : tie.Need-u16-at-requires
 u16-at-requires c κs = search needs
 
--- src/save.rt:71:5
 put-u16-requires : tie.Need-put-u16-requires
 put-u16-requires c κs = search needs
 
--- src/save.rt:72:26
 add-put-u16-2 : tie.Need-add-put-u16-2
 add-put-u16-2 c = search needs
 
--- src/save.rt:72:35
 u16-at-requires-2 : tie.Need-u16-at-requires-2
 u16-at-requires-2 c κs = search needs
 
--- src/save.rt:72:5
 put-u16-requires-2 : tie.Need-put-u16-requires-2
 put-u16-requires-2 c κs = search needs
 
--- src/save.rt:73:26
 add-put-u16-3 : tie.Need-add-put-u16-3
 add-put-u16-3 c = search needs
 
--- src/save.rt:73:35
 u16-at-requires-3 : tie.Need-u16-at-requires-3
 u16-at-requires-3 c κs = search needs
 
--- src/save.rt:73:5
 put-u16-requires-3 : tie.Need-put-u16-requires-3
 put-u16-requires-3 c κs = search needs
 
--- src/save.rt:74:25
 add-put-u8 : tie.Need-add-put-u8
 add-put-u8 c = search needs
 
--- src/save.rt:74:34
 options-requires : tie.Need-options-requires
 options-requires c κs = search needs
 
--- src/save.rt:74:5
 put-u8-requires : tie.Need-put-u8-requires
 put-u8-requires c κs = search needs
 
--- src/save.rt:67:1
 same-length : tie.Need-same-length
 same-length c = search needs
 
--- src/save.rt:67:1
 returns : tie.Need-returns
 returns c = rw (c .before .before .put-u8 .ensures, c .before .before .before .options .ensures, c .before .before .before .before .before .before .before .put-u163 .ensures, c .before .before .before .before .before .before .before .before .u16-at3 .ensures, c .before .before .before .before .before .before .before .before .before .before .before .before .put-u162 .ensures, c .before .before .before .before .before .before .before .before .before .before .before .before .before .u16-at2 .ensures, c .before .before .before .before .before .before .before .before .before .before .before .before .before .before .before .before .before .put-u16 .ensures, c .before .before .before .before .before .before .before .before .before .before .before .before .before .before .before .before .before .before .u16-at .ensures)
 

@@ -1,69 +1,48 @@
+-- `image::save::put_sizes` meets its contract.
 use Rattle.image.proofs.SaveLaws.{sizes-stored}
 use borrow.Author.Needs.{needs}
 use Rattle.image.proofs.save.put_sizes.Statement.{statement}
 use Rattle.image.proofs.save.put_sizes.Tie as tie
-use Rattle.image.proofs.save.put_sizes.Reads as reads
-use Rattle.image.proofs.save.put_sizes.Lts as lts
-use Rattle.image.proofs.save.flag_bit.Reads as flag-bit-reads
-use Rattle.wire.proofs.put_u64.Reads as put-u64-reads
-use Rattle.wire.proofs.put_u8.Reads as put-u8-reads
-use Rattle.wire.proofs.u64_at.Reads as u64-at-reads
-use Rattle.wire.proofs.u8_at.Reads as u8-at-reads
-use Rattle.wire.proofs.zero_part.Reads as zero-part-reads
 
--- src/save.rt:59:5
 zero-part-requires : tie.Need-zero-part-requires
 zero-part-requires c κs = search needs
 
--- src/save.rt:60:30
 u64-at-requires : tie.Need-u64-at-requires
 u64-at-requires c κs = search needs
 
--- src/save.rt:60:5
 put-u64-requires : tie.Need-put-u64-requires
 put-u64-requires c κs = search needs
 
--- src/save.rt:61:26
 add-put-u64 : tie.Need-add-put-u64
 add-put-u64 c = search needs
 
--- src/save.rt:61:34
 u64-at-requires-2 : tie.Need-u64-at-requires-2
 u64-at-requires-2 c κs = search needs
 
--- src/save.rt:61:5
 put-u64-requires-2 : tie.Need-put-u64-requires-2
 put-u64-requires-2 c κs = search needs
 
--- src/save.rt:62:25
 add-put-u8 : tie.Need-add-put-u8
 add-put-u8 c = search needs
 
--- src/save.rt:62:34
 flag-bit-requires : tie.Need-flag-bit-requires
 flag-bit-requires c κs = search needs
 
--- src/save.rt:62:5
 put-u8-requires : tie.Need-put-u8-requires
 put-u8-requires c κs = search needs
 
--- src/save.rt:63:25
 add-put-u8-2 : tie.Need-add-put-u8-2
 add-put-u8-2 c = search needs
 
--- src/save.rt:63:34
 u8-at-requires : tie.Need-u8-at-requires
 u8-at-requires c κs = search needs
 
--- src/save.rt:63:5
 put-u8-requires-2 : tie.Need-put-u8-requires-2
 put-u8-requires-2 c κs = search needs
 
--- src/save.rt:55:1
 same-length : tie.Need-same-length
 same-length c = search needs
 
--- src/save.rt:55:1
 returns : tie.Need-returns
 returns c =
     let a = c .before .before .before .before .before .before .before .before .before .before .before .before .before .before .before .before .before .before .before .before .before .before .before .before .before .before .args in

@@ -1,59 +1,42 @@
+-- `image::save::put_trailer` meets its contract.
 use Rattle.image.proofs.SaveLaws.{trailer-stored}
 use borrow.Author.Needs.{needs}
 use Rattle.image.proofs.save.put_trailer.Statement.{statement}
 use Rattle.image.proofs.save.put_trailer.Tie as tie
-use Rattle.image.proofs.save.put_trailer.Reads as reads
-use Rattle.image.proofs.save.put_trailer.Lts as lts
-use Rattle.image.proofs.entry.previous_place.Reads as previous-place-reads
-use Rattle.wire.proofs.put_u32.Reads as put-u32-reads
-use Rattle.wire.proofs.copy_part.Reads as copy-part-reads
-use Rattle.wire.proofs.zero_part.Reads as zero-part-reads
 
--- src/save.rt:24:5
 zero-part-requires : tie.Need-zero-part-requires
 zero-part-requires c κs = search needs
 
--- src/save.rt:25:5
 put-u32-requires : tie.Need-put-u32-requires
 put-u32-requires c κs = search needs
 
--- src/save.rt:26:26
 add-put-u32 : tie.Need-add-put-u32
 add-put-u32 c = search needs
 
--- src/save.rt:26:34
 previous-place-requires : tie.Need-previous-place-requires
 previous-place-requires c κs = search needs
 
--- src/save.rt:26:5
 put-u32-requires-2 : tie.Need-put-u32-requires-2
 put-u32-requires-2 c κs = search needs
 
--- src/save.rt:27:26
 add-put-u32-2 : tie.Need-add-put-u32-2
 add-put-u32-2 c = search needs
 
--- src/save.rt:27:5
 put-u32-requires-3 : tie.Need-put-u32-requires-3
 put-u32-requires-3 c κs = search needs
 
--- src/save.rt:28:28
 add-copy-part : tie.Need-add-copy-part
 add-copy-part c = search needs
 
--- src/save.rt:28:37
 slice-aggregate-copy-part : tie.Need-slice-aggregate-copy-part
 slice-aggregate-copy-part c = search needs
 
--- src/save.rt:28:5
 copy-part-requires : tie.Need-copy-part-requires
 copy-part-requires c κs = search needs
 
--- src/save.rt:19:1
 same-length : tie.Need-same-length
 same-length c = search needs
 
--- src/save.rt:19:1
 returns : tie.Need-returns
 returns c =
     let a = c .before .before .before .before .before .before .before .before .before .before .before .before .before .before .before .before .before .before .before .before .before .before .before .args in

@@ -1,0 +1,28 @@
+-- `command::put_reply` meets its contract.
+use Rattle.reply.specs.Meaning.{asRegisters}
+use Rattle.reply.proofs.ReplyLaws.{reply-cleared}
+use borrow.Author.Needs.{needs}
+use Rattle.reply.proofs.registers.put_reply.Statement.{statement}
+use Rattle.reply.proofs.registers.put_reply.Tie as tie
+
+put-registers-requires : tie.Need-put-registers-requires
+put-registers-requires c κs = search needs
+
+add-zero-part : tie.Need-add-zero-part
+add-zero-part c = search needs
+
+zero-part-requires : tie.Need-zero-part-requires
+zero-part-requires c κs = search needs
+
+same-length : tie.Need-same-length
+same-length c = search needs
+
+returns : tie.Need-returns
+returns c =
+    let a = c .before .before .before .before .before .before .before .before .before .args in
+    rw (c .before .before .zero-part .ensures, c .before .before .before .before .before .before .put-registers .ensures) (reply-cleared (a .area .now) (a .at) (asRegisters (a .r)))
+
+pub put-reply-spec : {M : Type 1} → statement M
+put-reply-spec =
+    tie.close
+    (tie.spec put-registers-requires add-zero-part zero-part-requires same-length returns)

@@ -1,0 +1,58 @@
+-- `command::put_status` meets its contract.
+use mathlib.Core.Path.{refl}
+use Rattle.model.specs.Registers.{good}
+use Rattle.model.specs.Status.{statusFields, statusSector}
+use Rattle.record.specs.Meaning.{asDevice}
+use Rattle.reply.proofs.ReplyLaws.{reply-form}
+use borrow.Author.Needs.{needs}
+use Rattle.reply.proofs.status.put_status.Statement.{statement}
+use Rattle.reply.proofs.status.put_status.Tie as tie
+
+good-requires : tie.Need-good-requires
+good-requires c κs = search needs
+
+put-reply-requires : tie.Need-put-reply-requires
+put-reply-requires c κs = search needs
+
+add-put-head : tie.Need-add-put-head
+add-put-head c = search needs
+
+put-head-requires : tie.Need-put-head-requires
+put-head-requires c κs = search needs
+
+add-put-command : tie.Need-add-put-command
+add-put-command c = search needs
+
+put-command-requires : tie.Need-put-command-requires
+put-command-requires c κs = search needs
+
+add-put-temperatures : tie.Need-add-put-temperatures
+add-put-temperatures c = search needs
+
+put-temperatures-requires : tie.Need-put-temperatures-requires
+put-temperatures-requires c κs = search needs
+
+same-length : tie.Need-same-length
+same-length c = search needs
+
+returns : tie.Need-returns
+unfolding statusSector
+returns c = λ h.
+    let a = c .before .before .before .before .before .before .before .before .before .before .before .before .before .before .before .before .before .before .before .before .args in
+    rw (c .before .before .put-temperatures .ensures, c .before .before .before .before .before .before .before .put-command .ensures, c .before .before .before .before .before .before .before .before .before .before .before .put-head .ensures, c .before .before .before .before .before .before .before .before .before .before .before .before .before .before .before .before .put-reply .ensures, c .before .before .before .before .before .before .before .before .before .before .before .before .before .before .before .before .before .good2 .ensures)
+    (reply-form (a .area .now) (a .at) (good 0 0) (statusFields (asDevice (a .d) h)) refl)
+
+pub put-status-spec : {M : Type 1} → statement M
+put-status-spec =
+    tie.close
+    (tie.spec
+    good-requires
+    put-reply-requires
+    add-put-head
+    put-head-requires
+    add-put-command
+    put-command-requires
+    add-put-temperatures
+    put-temperatures-requires
+    same-length
+    returns)

@@ -1,0 +1,6 @@
+-- What a reply's struct says, in the model's words.
+use Rattle.model.specs.Registers.{Registers}
+use Rattle.reply.specs.declared.registers as code
+
+abbrev pub asRegisters : code.Reply.Reply → Registers
+asRegisters r = record { status = r .status; error = r .error; value = r .value; sectors = r .sectors }

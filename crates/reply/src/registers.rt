@@ -1,0 +1,76 @@
+// A reply: its registers, and the bytes that it is in the slot.
+use wire::put_u8;
+use wire::zero_part;
+ghost use mathlib.Core.Path.{_≡_};
+ghost use Prim.Native.Nat.{_+_, _≤_};
+ghost use mathlib.Core.List.{[]};
+ghost use lib.ListN.{length};
+ghost use lib.Seq.{sets};
+ghost use Rattle.model.specs.Registers.{good, refused, refusedWith, registersBytes, replyBytes};
+ghost use Rattle.reply.specs.Meaning.{asRegisters};
+
+// `value` stands in Sector Count (low) and LBA Low (high), `sectors` in LBA Mid.
+pub struct Reply {
+    pub status: u8,
+    pub error: u8,
+    pub value: u16,
+    pub sectors: u8,
+}
+
+// "Good: Status 50h, Error 0." With a value asked for, and with the number of sectors that are pending.
+pub fn good(value: u16, sectors: u8) -> Reply
+    ensures { λ r. ⌜ asRegisters r ≡ good value sectors ⌝ }
+{
+    Reply {
+        status: 0x50,
+        error: 0,
+        value,
+        sectors,
+    }
+}
+
+// "Refused: Status 51h"
+pub fn refused(error: u8) -> Reply
+    ensures { λ r. ⌜ asRegisters r ≡ refused error ⌝ }
+{
+    Reply {
+        status: 0x51,
+        error,
+        value: 0,
+        sectors: 0,
+    }
+}
+
+// "SCT refusals have Error 04h and the extended code in Sector Count (low) and LBA Low (high)."
+pub fn refused_with(code: u16) -> Reply
+    ensures { λ r. ⌜ asRegisters r ≡ refusedWith code ⌝ }
+{
+    Reply {
+        status: 0x51,
+        error: 0x04,
+        value: code,
+        sectors: 0,
+    }
+}
+
+// Writes the registers of a reply. "In a reply every byte not named is 0"
+pub fn put_registers(area: &mut [u8], at: usize, r: Reply)
+    requires { ⌜ at + 528 ≤ length (now area) ⌝ }
+    ensures { λ _. ⌜ now (area .exit) ≡ sets (now (area .entry)) at (registersBytes (asRegisters r)) ⌝ }
+{
+    zero_part(area, at, 16);
+    put_u8(area, at + 2, (r.value % 256) as u8);
+    put_u8(area, at + 4, (r.value / 256) as u8);
+    put_u8(area, at + 6, r.sectors);
+    put_u8(area, at + 12, r.status);
+    put_u8(area, at + 13, r.error);
+}
+
+// Writes a reply without data. ".. and the sector is zeros unless data is returned."
+pub fn put_reply(area: &mut [u8], at: usize, r: Reply)
+    requires { ⌜ at + 528 ≤ length (now area) ⌝ }
+    ensures { λ _. ⌜ now (area .exit) ≡ sets (now (area .entry)) at (replyBytes (asRegisters r) []) ⌝ }
+{
+    put_registers(area, at, r);
+    zero_part(area, at + 16, 512);
+}

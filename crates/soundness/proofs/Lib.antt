@@ -1,0 +1,3 @@
+-- Laws of the tests that the code makes, in reading order.
+pub mod PendingLaws
+pub mod SoundnessLaws

@@ -1,0 +1,42 @@
+-- `soundness::places::flags_named` meets its contract.
+use Rattle.store.specs.InPlace.{flagsNamed}
+use borrow.Author.Needs.{needs}
+use Rattle.soundness.proofs.places.flags_named.Statement.{statement}
+use Rattle.soundness.proofs.places.flags_named.Tie as tie
+
+flag-named-requires : tie.Need-flag-named-requires
+flag-named-requires c κs = search needs
+
+flag-named-requires-2 : tie.Need-flag-named-requires-2
+flag-named-requires-2 c κs = search needs
+
+flag-named-requires-3 : tie.Need-flag-named-requires-3
+flag-named-requires-3 c κs = search needs
+
+flag-named-requires-4 : tie.Need-flag-named-requires-4
+flag-named-requires-4 c κs = search needs
+
+flag-named-requires-5 : tie.Need-flag-named-requires-5
+flag-named-requires-5 c κs = search needs
+
+returns : tie.Need-returns
+unfolding flagsNamed
+returns c =
+    rw (
+      c .before .before .before .before .flag-named .ensures,
+      c .before .before .before .flag-named2 .ensures,
+      c .before .before .flag-named3 .ensures,
+      c .before .flag-named4 .ensures,
+      c .flag-named5 .ensures,
+    )
+
+pub flags-named-spec : {M : Type 1} → statement M
+flags-named-spec =
+    tie.close
+    (tie.spec
+    flag-named-requires
+    flag-named-requires-2
+    flag-named-requires-3
+    flag-named-requires-4
+    flag-named-requires-5
+    returns)

@@ -1,0 +1,9 @@
+// A record written: the device's fields (fields.rt), readings of the history (history.rt), and a record made anew (framing.rt).
+mod fields;
+mod framing;
+mod history;
+
+pub use fields::write;
+pub use framing::frame;
+pub use history::empty_history;
+pub use history::log_reading;
