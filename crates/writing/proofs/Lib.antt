@@ -3,4 +3,4 @@ pub mod SlotsLaws
 pub mod FitsLaws
 pub mod FramedLaws
 pub mod HistoryLaws
-pub mod FrameLaws
+pub mod BlankLaws

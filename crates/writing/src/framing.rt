@@ -1,16 +1,13 @@
-// A record made anew, whatever stood there: its spare bytes, its table's fixed bytes, and an empty history.
+// A record made anew, whatever stood there: zeros, and the temperature table of an empty history.
 use crate::history::empty_history;
 ghost use mathlib.Core.Path.{_≡_};
 ghost use lib.ListN.{length};
-ghost use Rattle.model.specs.Temperature.{emptyHistory};
 ghost use Rattle.store.specs.Areas.{recordSize};
-ghost use Rattle.record.specs.Meaning.{historyOf};
-ghost use Rattle.writing.specs.Framed.{Framed};
+ghost use Rattle.writing.specs.Blank.{blankRecord};
 
 pub fn frame(r: &mut [u8])
     requires { ⌜ length (now r) ≡ recordSize ⌝ }
-    ensures { λ _. ⌜ Framed (now (r .exit)) ⌝ }
-    ensures history { λ _. ⌜ historyOf (now (r .exit)) ≡ emptyHistory ⌝ }
+    ensures { λ _. ⌜ now (r .exit) ≡ blankRecord ⌝ }
 {
     wire::zero_part(r, 0, 546);
     wire::put_u32(r, 512, 0x00010002);

@@ -1,11 +1,13 @@
 -- `image::restore::restore_blank` meets its contract.
-use mathlib.Core.Path.{ap, _∙_}
+use mathlib.Core.Path.{sym, ap, _∙_, subst}
 use mathlib.Core.List.{List}
 use Prim.Native.Nat.{ℕ}
 use Rattle.model.specs.Temperature.{emptyHistory}
 use Rattle.model.specs.Image.{blank}
 use Rattle.store.specs.Record.{encode}
-use Rattle.record.specs.Meaning.{stagesOf, asDevice, asContents}
+use Rattle.record.specs.Meaning.{stagesOf, asDevice, asContents, historyOf}
+use Rattle.writing.specs.Framed.{Framed}
+use Rattle.writing.proofs.BlankLaws.{blank-framed, blank-history}
 use Rattle.image.proofs.RestoreLaws.{restored-encoded}
 use borrow.Author.Needs.{needs}
 use Rattle.image.proofs.restore.restore_blank.Statement.{statement}
@@ -18,17 +20,21 @@ frame-requires : tie.Need-frame-requires
 frame-requires c κs = search needs
 
 write-requires : tie.Need-write-requires
-write-requires c κs = search needs
+write-requires c κs = subst Framed (sym (c .before .before .before .frame .ensures)) blank-framed
 
 same-length : tie.Need-same-length
 same-length c = search needs
 
 returns : tie.Need-returns
 returns c =
-    let d = c .before .before .before .before .before .before .before .before .blank-device .result in
-    c .before .before .write .ensures .0
-    ∙ ap (λ (h : List ℕ). encode (asContents d h)) (c .before .before .before .before .before .before .frame .ensures .1)
-    ∙ restored-encoded (asDevice d emptyHistory) (stagesOf (d .slots)) (blank (c .before .before .before .before .before .before .before .before .before .before .args .native)) (c .before .before .before .before .before .before .before .before .blank-device .ensures .0) (c .before .before .before .before .before .before .before .before .blank-device .ensures .1)
+    let at-write = c .before .before in
+    let at-frame = at-write .before .before .before .before in
+    let at-blank-device = at-frame .before .before in
+    let d = at-blank-device .blank-device .result in
+    at-write .write .ensures .0
+    ∙ ap (λ (l : List ℕ). encode (asContents d (historyOf l))) (at-frame .frame .ensures)
+    ∙ ap (λ (h : List ℕ). encode (asContents d h)) blank-history
+    ∙ restored-encoded (asDevice d emptyHistory) (stagesOf (d .slots)) (blank (at-blank-device .before .before .args .native)) (at-blank-device .blank-device .ensures .0) (at-blank-device .blank-device .ensures .1)
 
 pub restore-blank-spec : {M : Type 1} → statement M
 restore-blank-spec =

@@ -1,10 +1,12 @@
 -- `image::restore::restore_entry` meets its contract.
-use mathlib.Core.Path.{ap, _∙_}
+use mathlib.Core.Path.{sym, ap, _∙_, subst}
 use mathlib.Core.List.{List}
 use Prim.Native.Nat.{ℕ}
 use Rattle.model.specs.Image.{powerOnThermal}
 use Rattle.store.specs.Record.{encode}
-use Rattle.record.specs.Meaning.{stagesOf, asDevice, asContents}
+use Rattle.record.specs.Meaning.{stagesOf, asDevice, asContents, historyOf}
+use Rattle.writing.specs.Framed.{Framed}
+use Rattle.writing.proofs.BlankLaws.{blank-framed, blank-history}
 use Rattle.image.specs.InPlace.{savedAt}
 use Rattle.image.proofs.RestoreLaws.{history-kept, restored-encoded}
 use borrow.Author.Needs.{needs}
@@ -18,7 +20,11 @@ frame-requires : tie.Need-frame-requires
 frame-requires c κs = search needs
 
 put-history-requires : tie.Need-put-history-requires
-put-history-requires c κs = search needs
+put-history-requires c κs =
+    let at-frame = c .before .before .before in
+    let entry = at-frame .before .before .before .before .before in
+    let blank = at-frame .frame .ensures in
+    (subst Framed (sym blank) blank-framed, entry .pre .1, ap historyOf blank ∙ blank-history)
 
 write-requires : tie.Need-write-requires
 write-requires c κs = search needs

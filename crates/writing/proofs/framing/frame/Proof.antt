@@ -1,5 +1,5 @@
 -- `writing::framing::frame` meets its contract.
-use Rattle.writing.proofs.FrameLaws.{frame-made, frame-history}
+use Rattle.writing.proofs.BlankLaws.{blank-stored}
 use borrow.Author.Needs.{needs}
 use Rattle.writing.proofs.framing.frame.Statement.{statement}
 use Rattle.writing.proofs.framing.frame.Tie as tie
@@ -24,9 +24,20 @@ same-length c = search needs
 
 returns : tie.Need-returns
 returns c =
-    let a = c .before .before .before .before .before .before .before .before .before .before .before .before .before .before .before .before .before .before .before .before .before .args in
-    rw (c .before .before .empty-history .ensures, c .before .before .before .before .before .before .put-u16 .ensures, c .before .before .before .before .before .before .before .before .before .before .put-u322 .ensures, c .before .before .before .before .before .before .before .before .before .before .before .before .before .before .put-u32 .ensures, c .before .before .before .before .before .before .before .before .before .before .before .before .before .before .before .before .before .before .zero-part .ensures)
-    (frame-made (a .r .now) (c .before .before .before .before .before .before .before .before .before .before .before .before .before .before .before .before .before .before .before .before .before .pre), frame-history (a .r .now) (c .before .before .before .before .before .before .before .before .before .before .before .before .before .before .before .before .before .before .before .before .before .pre))
+    let at-empty-history = c .before .before in
+    let at-put-u16 = at-empty-history .before .before .before .before in
+    let at-put-u322 = at-put-u16 .before .before .before .before in
+    let at-put-u32 = at-put-u322 .before .before .before .before in
+    let at-zero-part = at-put-u32 .before .before .before .before in
+    let entry = at-zero-part .before .before .before in
+    rw (
+      at-empty-history .empty-history .ensures,
+      at-put-u16 .put-u16 .ensures,
+      at-put-u322 .put-u322 .ensures,
+      at-put-u32 .put-u32 .ensures,
+      at-zero-part .zero-part .ensures,
+    )
+    (blank-stored (entry .args .r .now) (entry .pre))
 
 pub frame-spec : {M : Type 1} → statement M
 frame-spec =
