@@ -11,9 +11,8 @@ use Rattle.wire.specs.Choice.{if_then_else_, firstFailed}
 use Rattle.wire.specs.Numbers.{get}
 use Rattle.wire.proofs.ChoiceLaws.{tests-same}
 use Rattle.model.specs.Sizes.{entrySize, entryLimit}
-use Rattle.model.specs.Image.{readable, sameDisk, hasRoom, saveChecks}
+use Rattle.model.specs.Image.{readable, sameDisk, imageChecks, hasRoom, saveChecks}
 use Rattle.model.proofs.ImageLaws.{readable-parts, newest-native}
-use Rattle.image.specs.Checks.{imageChecks}
 
 -- ---- the newest entry's disk
 

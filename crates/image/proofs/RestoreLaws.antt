@@ -17,14 +17,13 @@ use Rattle.model.specs.Sizes.{portCount, missing, bodySize, entrySize}
 use Rattle.model.specs.Device.{idle, Settings, Device}
 use Rattle.model.specs.Temperature.{emptyHistory, emptyIndex}
 use Rattle.model.specs.Fill.{nothingPending}
-use Rattle.model.specs.Image.{Saved, savedIn, trailerPlace, entries, blank, powerOnSettings, powerOnThermal, powerOn, restored}
+use Rattle.model.specs.Image.{Saved, savedIn, trailerPlace, entries, imageChecks, blank, powerOnSettings, powerOnThermal, powerOn, restored}
 use Rattle.model.proofs.ImageLaws.{readable-parts}
 use Rattle.store.specs.Record.{Stage, empty, encode}
 use Rattle.record.specs.Meaning.{historyOf}
 use Rattle.writing.specs.Framed.{Framed}
 use Rattle.writing.proofs.FramedLaws.{history-stored}
 use Rattle.image.specs.InPlace.{savedAt}
-use Rattle.image.specs.Checks.{imageChecks}
 use Rattle.image.specs.Restore.{restoredContents}
 use Rattle.image.proofs.EntryInPlace.{saved-at}
 use Rattle.image.proofs.RefusalLaws.{read-readable, read-entry}

@@ -1,5 +1,4 @@
 -- Definitions of the image crate, in reading order.
 pub mod InPlace
-pub mod Checks
 pub mod Head
 pub mod Restore

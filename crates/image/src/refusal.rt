@@ -5,8 +5,7 @@ ghost use mathlib.Core.Bool.{true};
 ghost use Prim.Native.Nat.{_≤_};
 ghost use lib.ListN.{length};
 ghost use Rattle.wire.specs.Choice.{firstFailed};
-ghost use Rattle.model.specs.Image.{readable, sameDisk, hasRoom, saveChecks};
-ghost use Rattle.image.specs.Checks.{imageChecks};
+ghost use Rattle.model.specs.Image.{readable, sameDisk, imageChecks, hasRoom, saveChecks};
 
 // Whether the image is empty or its newest entry is this disk's.
 fn same_disk(native: u64, image: &[u8], used: usize) -> bool

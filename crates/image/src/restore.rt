@@ -15,13 +15,12 @@ ghost use lib.Dec.{eqb};
 ghost use Rattle.wire.specs.Choice.{if_then_else_, firstFailed};
 ghost use Rattle.model.specs.Sizes.{portCount, bodySize};
 ghost use Rattle.model.specs.Temperature.{emptyHistory, emptyIndex};
-ghost use Rattle.model.specs.Image.{Saved, hasBit, blank, powerOnSettings, powerOnThermal, powerOn, restored};
+ghost use Rattle.model.specs.Image.{Saved, hasBit, imageChecks, blank, powerOnSettings, powerOnThermal, powerOn, restored};
 ghost use Rattle.store.specs.Areas.{recordSize};
 ghost use Rattle.store.specs.Record.{empty, encode};
 ghost use Rattle.record.specs.Meaning.{asSettings, asDevice, stagesOf, historyOf};
 ghost use Rattle.writing.specs.Framed.{Framed};
 ghost use Rattle.image.specs.InPlace.{savedAt};
-ghost use Rattle.image.specs.Checks.{imageChecks};
 ghost use Rattle.image.specs.Restore.{restoredContents};
 
 // Whether the bit of a weight (1, 2, 4 ..) is 1 in a byte.

@@ -155,9 +155,15 @@ chainHolds native image zero at = eqb at 0xFFFFFFFF
 chainHolds native image (suc k) at =
     eqb at (trailerPlace (suc k)) && entryHolds native image (suc k) && chainHolds native image k (get 4 image (at + 4))
 
--- "newest entry's N is not this disk's": 7
+-- whether the image is empty or its newest entry is this disk's
 abbrev pub sameDisk : ℕ → List ℕ → ℕ → Bool
 sameDisk native image used = eqb used 0 || eqb (newest image used .native) native
+
+-- "an image's used length exceeds its buffer" (2); "image not readable by the rules below" (6); "newest entry's N is not this disk's" (7):
+-- what a save and a power-on ask of an image
+abbrev pub imageChecks : ℕ → List ℕ → ℕ → List Check
+imageChecks native image used =
+    (leb used (length image), badLength) ∷ (readable image used, badImage) ∷ (sameDisk native image used, otherDisk) ∷ []
 
 -- ---- save
 
@@ -165,14 +171,8 @@ sameDisk native image used = eqb used 0 || eqb (newest image used .native) nativ
 abbrev pub hasRoom : List ℕ → ℕ → Bool
 hasRoom image used = ltb (entries used) entryLimit && leb (used + entrySize) (length image)
 
--- "an image's used length exceeds its buffer" comes first
 abbrev pub saveChecks : ℕ → List ℕ → ℕ → List Check
-saveChecks native image used =
-    (leb used (length image), badLength)
-    ∷ (readable image used, badImage)
-    ∷ (sameDisk native image used, otherDisk)
-    ∷ (hasRoom image used, imageFull)
-    ∷ []
+saveChecks native image used = imageChecks native image used ++ ((hasRoom image used, imageFull) ∷ [])
 
 -- "A save adds one entry behind the used length; other bytes stay."
 unfoldable pub savedImage : Device → List ℕ → ℕ → List ℕ
@@ -185,12 +185,7 @@ abbrev pub wholeSectors : ℕ → Bool
 wholeSectors size = eqb (size % sectorSize) 0 && between 1 (size / sectorSize) nativeLimit
 
 abbrev pub powerOnChecks : List ℕ → List ℕ → ℕ → List Check
-powerOnChecks disk image used =
-    (wholeSectors (length disk), badLength)
-    ∷ (leb used (length image), badLength)
-    ∷ (readable image used, badImage)
-    ∷ (sameDisk (length disk / sectorSize) image used, otherDisk)
-    ∷ []
+powerOnChecks disk image used = (wholeSectors (length disk), badLength) ∷ imageChecks (length disk / sectorSize) image used
 
 abbrev pub defaultFeature : Feature
 defaultFeature = record { state = 1; persistent = false }

@@ -1,3 +1,2 @@
--- In reading order.
+-- What a reply's struct says.
 pub mod Meaning
-pub mod Fields

@@ -13,16 +13,15 @@ use wire::put_u32;
 use wire::put_u64;
 ghost use mathlib.Core.Path.{_≡_};
 ghost use Prim.Native.Nat.{ℕ, _+_, _≤_};
-ghost use mathlib.Core.List.{List};
+ghost use mathlib.Core.List.{List, []};
 ghost use lib.ListN.{length};
 ghost use lib.Seq.{sets};
 ghost use Rattle.wire.specs.Choice.{bit};
 ghost use Rattle.wire.specs.Parts.{part};
 ghost use Rattle.wire.specs.Layout.{stores, placed};
 ghost use Rattle.model.specs.Registers.{good, replyBytes};
-ghost use Rattle.model.specs.Status.{driveState, currentLba, statusSector};
-ghost use Rattle.record.specs.Meaning.{asFill, asDevice};
-ghost use Rattle.reply.specs.Fields.{headFields, commandFields, thermalFields};
+ghost use Rattle.model.specs.Status.{driveState, currentLba, statusHead, statusCommand, statusTemperatures, statusSector};
+ghost use Rattle.record.specs.Meaning.{asFill, asThermal, asCommand, asDevice};
 
 // "flag bit 0 at 6"
 fn flags(initialized: bool) -> u32
@@ -54,7 +53,7 @@ fn current_lba(fill: Fill) -> u64
 // "format 0002h; version 0001h at 2; spec 0001h at 4; flag bit 0 at 6; state at 10"
 fn put_head(area: &mut [u8], at: usize, initialized: bool, fill: Fill)
     requires { ⌜ at + 512 ≤ length (now area) ⌝ }
-    ensures { λ _. ⌜ now (area .exit) ≡ stores (placed at (headFields initialized (asFill fill))) (now (area .entry)) ⌝ }
+    ensures { λ _. ⌜ now (area .exit) ≡ stores (placed at (statusHead initialized (asFill fill))) (now (area .entry)) ⌝ }
 {
     put_u16(area, at, 0x0002);
     put_u16(area, at + 2, 0x0001);
@@ -66,7 +65,7 @@ fn put_head(area: &mut [u8], at: usize, initialized: bool, fill: Fill)
 // "code 14; action 16; function 18; LBA 40-47 the next sector, 0 with no fill"
 fn put_command(area: &mut [u8], at: usize, c: Command)
     requires { ⌜ at + 512 ≤ length (now area) ⌝ }
-    ensures { λ _. ⌜ now (area .exit) ≡ stores (placed at (commandFields (c .code) (c .action) (c .function) (asFill (c .fill)))) (now (area .entry)) ⌝ }
+    ensures { λ _. ⌜ now (area .exit) ≡ stores (placed at (statusCommand (asCommand c []))) (now (area .entry)) ⌝ }
 {
     put_u16(area, at + 14, c.code);
     put_u16(area, at + 16, c.action);
@@ -78,7 +77,7 @@ fn put_command(area: &mut [u8], at: usize, c: Command)
 // "temperatures at 200 (now), 202 (this power cycle), 204 (life)"
 fn put_temperatures(area: &mut [u8], at: usize, t: Thermal)
     requires { ⌜ at + 512 ≤ length (now area) ⌝ }
-    ensures { λ _. ⌜ now (area .exit) ≡ stores (placed at (thermalFields (t .current) (t .cycle) (t .life))) (now (area .entry)) ⌝ }
+    ensures { λ _. ⌜ now (area .exit) ≡ stores (placed at (statusTemperatures (asThermal t []))) (now (area .entry)) ⌝ }
 {
     put_u8(area, at + 200, t.current);
     put_u8(area, at + 202, t.cycle);

@@ -13,7 +13,7 @@ use Rattle.wire.specs.Bytes.{Bytes}
 use Rattle.wire.proofs.ChoiceLaws.{AllPass, Numbered, between-within, first-bound, all-pass, pass-all}
 use Rattle.model.specs.Sizes.{sectorSize, nativeLimit, mailboxSize, entrySize}
 use Rattle.model.specs.Image.{wholeSectors, readable, sameDisk, savedImage}
-use Rattle.model.specs.Image.{saveChecks as imageChecks}
+use Rattle.model.specs.Image.{saveChecks as savingChecks}
 use Rattle.model.specs.Machine.{Port, Machine, request}
 use Rattle.model.specs.Step.{Step, take, serve, give, work, lock, unlock, setVisible, sample, save, powerOn, Seen, Outcome, checks, unchanged, step}
 use Rattle.model.specs.Valid.{Fed, MachineValid}
@@ -209,7 +209,7 @@ pub power-on-saved : (s : Store) (image : List ℕ) (used : ℕ) (r a : List ℕ
 power-on-saved s image used r a v e size private =
     let passed = sym (entry-answer (save image used) s) ∙ e in
     let d = decode (s .recordArea) .device in
-    let checked = pass-all (imageChecks (d .native) image used) (all-pass 8 (storeChecks (save image used) s) (entry-order (save image used) s .1) passed .1) in
+    let checked = pass-all (savingChecks (d .native) image used) (all-pass 8 (storeChecks (save image used) s) (entry-order (save image used) s .1) passed .1) in
     rw (on-done (save image used) s passed)
     (power-on-answer r a (s .disk) (savedImage d image used) (used + entrySize)
     ∙ rw (eq-eqb (length r) recordSize size, eq-eqb (length a) privateSize private)

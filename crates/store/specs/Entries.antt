@@ -16,7 +16,7 @@ use Rattle.model.specs.Decide.{Effect, nothing, sendStatus, sendTemperatures, r
 use Rattle.model.specs.Perform.{written, sent}
 use Rattle.model.specs.Owner.{setLock, setVisible, sample}
 use Rattle.model.specs.Image.{savedImage, restored, powerOn}
-use Rattle.model.specs.Image.{saveChecks as imageChecks, powerOnChecks as diskChecks}
+use Rattle.model.specs.Image.{saveChecks as savingChecks, powerOnChecks as diskChecks}
 use Rattle.store.specs.Areas.{recordSize, slotPlace, fillPlace, privateSize}
 use Rattle.store.specs.Record.{Stage, empty, held, answered, Contents, encode, decode}
 use Rattle.store.specs.Sound.{sound}
@@ -208,7 +208,7 @@ pub record SaveAfter : Type 0 where
   pub used : ℕ
 
 abbrev pub saveChecks : List ℕ → List ℕ → ℕ → List Check
-saveChecks r image used = soundRecord r ∷ imageChecks (decode r .device .native) image used
+saveChecks r image used = soundRecord r ∷ savingChecks (decode r .device .native) image used
 
 abbrev pub saveDone : List ℕ → List ℕ → ℕ → SaveAfter
 saveDone r image used = record { answer = done; image = savedImage (decode r .device) image used; used = used + entrySize }

@@ -1,4 +1,4 @@
--- `command::put_registers` meets its contract.
+-- `reply::registers::put_registers` meets its contract.
 use mathlib.Core.Path.{refl}
 use Rattle.model.specs.Sizes.{registersSize}
 use Rattle.model.specs.Registers.{registersFields, registersBytes}

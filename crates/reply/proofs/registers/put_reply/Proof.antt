@@ -1,4 +1,4 @@
--- `command::put_reply` meets its contract.
+-- `reply::registers::put_reply` meets its contract.
 use Rattle.reply.specs.Meaning.{asRegisters}
 use Rattle.reply.proofs.ReplyLaws.{reply-cleared}
 use borrow.Author.Needs.{needs}

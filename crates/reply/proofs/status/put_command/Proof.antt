@@ -1,4 +1,4 @@
--- `command::put_command` meets its contract.
+-- `reply::status::put_command` meets its contract.
 use borrow.Author.Needs.{needs}
 use Rattle.reply.proofs.status.put_command.Statement.{statement}
 use Rattle.reply.proofs.status.put_command.Tie as tie

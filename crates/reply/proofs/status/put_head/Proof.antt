@@ -1,4 +1,4 @@
--- `command::put_head` meets its contract.
+-- `reply::status::put_head` meets its contract.
 use native.Mathlib.Nat.{add-zero}
 use borrow.Author.Needs.{needs}
 use Rattle.reply.proofs.status.put_head.Statement.{statement}

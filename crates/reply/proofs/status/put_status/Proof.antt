@@ -1,4 +1,4 @@
--- `command::put_status` meets its contract.
+-- `reply::status::put_status` meets its contract.
 use mathlib.Core.Path.{refl}
 use Rattle.model.specs.Registers.{good}
 use Rattle.model.specs.Status.{statusFields, statusSector}

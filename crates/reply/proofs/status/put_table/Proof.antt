@@ -1,4 +1,4 @@
--- `command::put_table` meets its contract.
+-- `reply::status::put_table` meets its contract.
 use native.Mathlib.Omega.{arith}
 use Rattle.wire.specs.Parts.{part}
 use Rattle.wire.proofs.PartsLaws.{length-part}

@@ -1,4 +1,4 @@
--- `command::put_temperatures` meets its contract.
+-- `reply::status::put_temperatures` meets its contract.
 use borrow.Author.Needs.{needs}
 use Rattle.reply.proofs.status.put_temperatures.Statement.{statement}
 use Rattle.reply.proofs.status.put_temperatures.Tie as tie
