@@ -135,9 +135,9 @@ pub fn advanced(d: Device, first: u64, next: u64, end: u64) -> Device
 pub fn cleared_flag(d: Device) -> Device
     ensures { λ r. ⌜ Changed (withInitialized false) d r ⌝ }
 {
-    let mut e = d;
-    e.initialized = false;
-    e
+    let mut written = d;
+    written.initialized = false;
+    written
 }
 
 // The device with a transfer pending for the port p.
