@@ -1,5 +1,7 @@
 -- Laws of structs that the functions change.
+pub mod ChangeLaws
 pub mod InterruptLaw
 pub mod SlotLaws
 pub mod ThermalLaws
+pub mod SampleLaws
 pub mod SettingsLaws

@@ -13,7 +13,9 @@ use Rattle.model.specs.Registers.{Direction, read, write}
 use Rattle.model.specs.Key.{FeatureName, writeCache, reordering, logInterval}
 use Rattle.model.specs.Update.{withSettings}
 use Rattle.model.specs.Decide.{withFeature, afterFeature}
-use Rattle.model.specs.Temperature.{emptyHistory, nextIndex, sampled}
+use Rattle.model.specs.Temperature.{emptyHistory, tableHeadSize, nextIndex, sampled}
+use Rattle.model.specs.Owner.{sample}
+use Rattle.store.specs.Areas.{headSize}
 use Rattle.record.specs.declared.device as code
 
 -- whatever the history is, which the struct does not hold
@@ -75,3 +77,14 @@ historyAfter t interval sample h = if ltb (suc (t .minutes)) interval then h els
 -- r says t after a sample
 pub record Sampled (t : code.Thermal.Thermal) (interval sample : ℕ) (r : code.Thermal.Thermal) : Type 0 where
   pub thermal : (h : List ℕ) → asThermal r (historyAfter t interval sample h) ≡ sampled interval sample (asThermal t h)
+
+-- e says d after a sample, with the history that is then in the record
+pub record SampledDevice (reading : ℕ) (d e : code.Device.Device) : Type 0 where
+  pub device :
+      (h : List ℕ) → asDevice e (historyAfter (d .thermal) (d .settings .interval .state) reading h) ≡ sample reading (asDevice d h)
+  pub stages : stagesOf (e .slots) ≡ stagesOf (d .slots)
+
+-- the record with a sample in its history, where it is logged
+abbrev pub loggedRecord : code.Thermal.Thermal → ℕ → ℕ → List ℕ → List ℕ
+loggedRecord t interval reading r =
+    if ltb (suc (t .minutes)) interval then r else set r (headSize + tableHeadSize + nextIndex (t .index)) reading

@@ -1,6 +1,8 @@
-// How the device changes, by value: a fill stopped, started and moved on; lock and visible size; timers and features; temperatures.
+// How the device changes, by value: a fill stopped, started and moved on; lock and visible size; timers and features; temperatures. A sample is
+// taken on the record's bytes.
 mod last;
 mod owner;
+mod sampling;
 mod settings;
 mod thermal;
 
@@ -14,6 +16,7 @@ pub use last::with_pending;
 pub use owner::set_lock;
 pub use owner::set_visible;
 pub use owner::with_stage;
+pub use sampling::sample;
 pub use settings::feature;
 pub use settings::set_feature;
 pub use settings::set_timer;

@@ -82,7 +82,11 @@ module _ (first next end : ℕ) (sector : List ℕ) (v : Volume) (runs : v .devi
   stepped zero p h = absurd (omega arith)
   stepped (suc k) p h = sectors k h
 
-  steps-disk : (k : ℕ) → next + k ≤ end → iterate k (sectorStep sector) v .disk ≡ sets (v .disk) (sectorSize * next) (repeated k sector)
+  pub steps-device : (k : ℕ) → 0 < k → next + k ≤ end → iterate k (sectorStep sector) v .device ≡ advanced first (next + k) end (withInitialized false (v .device))
+  unfolding moved
+  steps-device k p h = ap (λ (w : Volume). w .device) (stepped k p h)
+
+  pub steps-disk : (k : ℕ) → next + k ≤ end → iterate k (sectorStep sector) v .disk ≡ sets (v .disk) (sectorSize * next) (repeated k sector)
   unfolding moved repeated
   steps-disk zero h = refl
   steps-disk (suc k) h = ap (λ (w : Volume). w .disk) (sectors k h)

@@ -22,6 +22,13 @@ set-sets-before (x ∷ xs) l at i a h =
     set-sets-before xs (set l at x) (suc at) i a (omega arith)
     ∙ ap (λ (m : List ℕ). sets m (suc at) xs) (set-comm l at i x a (λ e. omega arith))
 
+-- two runs apart, in either order
+pub sets-apart : (vs ws l : List ℕ) (i j : ℕ) → i + length vs ≤ j → sets (sets l j ws) i vs ≡ sets (sets l i vs) j ws
+sets-apart [] ws l i j h = refl
+sets-apart (v ∷ vs) ws l i j h =
+    ap (λ (m : List ℕ). sets m (suc i) vs) (set-sets-before ws l j i v (omega arith))
+    ∙ sets-apart vs ws (set l i v) (suc i) j (omega arith)
+
 set-within : (xs l : List ℕ) (at i a : ℕ) → i < length xs → set (sets l at xs) (at + i) a ≡ sets l at (set xs i a)
 set-within [] l at i a h = absurd (omega arith)
 set-within (x ∷ xs) l at zero a h =

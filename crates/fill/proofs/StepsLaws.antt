@@ -1,0 +1,132 @@
+-- A fill worked off: the definition's sector steps are the device moved on and the sectors written one behind the other.
+use mathlib.Core.Path.{_≡_, refl, sym, ap, subst, _∙_}
+use mathlib.Core.Bool.{Bool, true, false}
+use Prim.Native.Nat.{ℕ, _+_, _*_, _-_, _≤_, _<_, min}
+use native.Mathlib.Omega.{arith}
+use native.Mathlib.Decide.{decLt}
+use mathlib.Core.List.{List}
+use lib.ListN.{length}
+use lib.Seq.{sets}
+use lib.Dec.{eqb}
+use borrow.Author.Tests.{eq-eqb, ne-eqb, eqb-true, eqb-false}
+use Rattle.wire.specs.Choice.{if_then_else_}
+use Rattle.wire.specs.Bytes.{Bytes}
+use Rattle.wire.specs.Parts.{part, repeated}
+use Rattle.wire.proofs.RunLaws.{repeat-more}
+use Rattle.model.specs.Sizes.{sectorSize}
+use Rattle.model.specs.Device.{Fill, idle, running, Device}
+use Rattle.model.specs.Update.{withInitialized}
+use Rattle.model.specs.Valid.{FillValid}
+use Rattle.model.specs.Fill.{Volume, advanced, sectorStep, iterate, remaining, workCount, work}
+use Rattle.model.proofs.WorkLaws.{steps-device, steps-disk}
+use Rattle.record.specs.declared.device as code
+use Rattle.record.specs.Meaning.{asFill, asDevice, asContents, historyOf}
+use Rattle.store.specs.Record.{Contents, decode, encode}
+use Rattle.store.specs.Sound.{sound}
+use Rattle.store.specs.Store.{fillSectorOf}
+use Rattle.store.specs.Entries.{withDevice, workDone}
+use Rattle.store.proofs.SoundLaws.{sound-valid}
+use Rattle.control.specs.Change.{Changed}
+use Rattle.control.proofs.ChangeLaws.{changed-contents}
+use Rattle.fill.specs.Moved.{nextOf, fillMoved, movedOn}
+
+-- ---- the device
+
+unmoved : (rule : Device → Device) (d : code.Device.Device) → ((h : List ℕ) → asDevice d h ≡ rule (asDevice d h)) → Changed rule d d
+unmoved rule d e = record { device = e; stages = refl; four = refl }
+
+pub moved-none : (k : ℕ) (d : code.Device.Device) → k ≡ 0 → Changed (movedOn k) d d
+moved-none k d e = unmoved (movedOn k) d (λ h. rw (eq-eqb k 0 e))
+
+module _ (k : ℕ) (d : code.Device.Device) (some : k ≡ 0 → ⊥) where
+  pub moved-idle : asFill (d .command .fill) ≡ idle → Changed (movedOn k) d d
+  moved-idle f = unmoved (movedOn k) d (λ h. rw (ne-eqb k 0 some, f))
+
+  pub moved-running : (first next end : ℕ) (e : code.Device.Device) → asFill (d .command .fill) ≡ running first next end
+      → Changed (λ x. advanced first (next + k) end (withInitialized false x)) d e → Changed (movedOn k) d e
+  moved-running first next end e f c =
+      record {
+        device = λ h. c .device h ∙ sym (rw (ne-eqb k 0 some, f));
+        stages = c .stages;
+        four = c .four;
+      }
+
+-- what is left of a running fill bounds the sectors
+pub left-bounds : (f : Fill) (k first next end : ℕ) → f ≡ running first next end → k ≤ remaining f → k ≤ end - next
+left-bounds f k first next end e h = subst (λ (g : Fill). k ≤ remaining g) e h
+
+-- ---- the definition's sector steps
+
+-- no more sectors than are left
+pub count-left : (n : ℕ) (f : Fill) → workCount n f ≤ remaining f
+unfolding workCount
+count-left n f = omega arith
+
+-- k sector steps, where as many are left
+module _ (sector : List ℕ) (v : Volume) (whole : length sector ≡ sectorSize) where
+  abbrev fill : Fill
+  fill = v .device .command .fill
+
+  steps-moved : (f : Fill) (k : ℕ) → fill ≡ f → k ≤ remaining f → iterate k (sectorStep sector) v .device ≡ (if eqb k 0 then v .device else fillMoved f k (v .device))
+  steps-moved idle k e h = let none : k ≡ 0 = omega arith in rw none
+  steps-moved (running first next end) k e h = go (eqb k 0) refl
+    where
+      go : (b : Bool) → eqb k 0 ≡ b → iterate k (sectorStep sector) v .device ≡ (if b then v .device else fillMoved (running first next end) k (v .device))
+      go true t = rw (eqb-true k 0 t)
+      go false t = let some = eqb-false k 0 t in let more : 0 < k = omega arith in steps-device first next end sector v e whole k more (omega arith)
+
+  steps-written : (f : Fill) (k : ℕ) → fill ≡ f → k ≤ remaining f → iterate k (sectorStep sector) v .disk ≡ sets (v .disk) (sectorSize * nextOf f) (repeated k sector)
+  unfolding repeated
+  steps-written idle k e h = let none : k ≡ 0 = omega arith in rw none
+  steps-written (running first next end) k e h = go (decLt 0 k)
+    where
+      go : Dec (0 < k) → iterate k (sectorStep sector) v .disk ≡ sets (v .disk) (sectorSize * next) (repeated k sector)
+      go (yes p) = steps-disk first next end sector v e whole k (omega arith)
+      go (no p) = let none : k ≡ 0 = omega arith in rw none
+
+  -- THE LAW of the work step's device ..
+  pub work-device : (n : ℕ) → work n sector v .device ≡ movedOn (workCount n fill) (v .device)
+  unfolding work
+  work-device n = steps-moved fill (workCount n fill) refl (count-left n fill)
+
+  -- .. and of its disk
+  pub work-sectors : (n : ℕ) → work n sector v .disk ≡ sets (v .disk) (sectorSize * nextOf fill) (repeated (workCount n fill) sector)
+  unfolding work
+  work-sectors n = steps-written fill (workCount n fill) refl (count-left n fill)
+
+-- ---- on the bytes
+
+-- the sectors that a budget allows lie within the disk: "first ≤ next < end ≤ V"
+pub sectors-fit : (n : ℕ) (f : Fill) (visible native : ℕ) → FillValid visible f → visible ≤ native → nextOf f + workCount n f ≤ native
+unfolding workCount
+sectors-fit n idle visible native v h = omega arith
+sectors-fit n (running first next end) visible native v h = omega (arith, v)
+
+module _ (r a disk : List ℕ) (n k : ℕ) (d e : code.Device.Device) (says : asContents d (historyOf r) ≡ decode r) (counted : k ≡ workCount n (asFill (d .command .fill))) where
+  abbrev sector : List ℕ
+  sector = fillSectorOf a
+
+  same-fill : asFill (d .command .fill) ≡ decode r .device .command .fill
+  same-fill = ap (λ (c : Contents). c .device .command .fill) says
+
+  pub work-fits : Bytes r → sound r ≡ true → length disk ≡ sectorSize * decode r .device .native
+      → sectorSize * (nextOf (asFill (d .command .fill)) + workCount n (asFill (d .command .fill))) ≤ length disk
+  work-fits b s size =
+      let v = sound-valid r b s .device in
+      let h = sectors-fit n (decode r .device .command .fill) (decode r .device .visible) (decode r .device .native) (v .commandValid .fillValid) (v .sizes .1) in
+      rw same-fill (omega (arith, h, size))
+
+  pub worked-count : k ≡ workDone r a disk n .count
+  worked-count = counted ∙ ap (workCount n) same-fill
+
+  pub worked-record : length sector ≡ sectorSize → Changed (movedOn k) d e → encode (asContents e (historyOf r)) ≡ workDone r a disk n .recordArea
+  worked-record whole change =
+      let v : Volume = record { device = decode r .device; disk = disk } in
+      ap encode
+      (changed-contents (movedOn k) d e (historyOf r) (decode r) says change
+      ∙ ap (λ (x : Device). withDevice x (decode r)) (ap (λ (j : ℕ). movedOn j (decode r .device)) worked-count ∙ sym (work-device sector v whole n)))
+
+  pub worked-disk : length sector ≡ sectorSize → sets disk (sectorSize * nextOf (asFill (d .command .fill))) (repeated k sector) ≡ workDone r a disk n .disk
+  worked-disk whole =
+      let v : Volume = record { device = decode r .device; disk = disk } in
+      (λ i. sets disk (sectorSize * nextOf (same-fill i)) (repeated (worked-count i) sector)) ∙ sym (work-sectors sector v whole n)

@@ -1,0 +1,2 @@
+-- The fill after some of its sectors.
+pub mod Moved

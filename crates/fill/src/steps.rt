@@ -1,0 +1,101 @@
+// A running fill worked off: how many sectors a budget allows, the sectors written, and the device behind them.
+use record::Device;
+use record::Fill;
+ghost use mathlib.Core.Path.{_≡_};
+ghost use mathlib.Core.Bool.{true};
+ghost use Prim.Native.Nat.{_+_, _*_, _-_, _≤_};
+ghost use lib.ListN.{length};
+ghost use lib.Seq.{sets};
+ghost use Rattle.wire.specs.Parts.{repeated};
+ghost use Rattle.model.specs.Sizes.{sectorSize};
+ghost use Rattle.model.specs.Fill.{remaining, workCount};
+ghost use Rattle.record.specs.Meaning.{asFill};
+ghost use Rattle.store.specs.Areas.{privateSize};
+ghost use Rattle.store.specs.Store.{fillSectorOf};
+ghost use Rattle.store.specs.Record.{decode};
+ghost use Rattle.store.specs.Sound.{sound};
+ghost use Rattle.store.specs.Entries.{workDone};
+ghost use Rattle.control.specs.Change.{Changed};
+ghost use Rattle.fill.specs.Moved.{nextOf, movedOn};
+
+// a - b, and 0 where b is greater.
+fn difference(a: u64, b: u64) -> u64
+    ensures { λ r. ⌜ r ≡ a - b ⌝ }
+{
+    if b < a { a - b } else { 0 }
+}
+
+// The sectors that are left of a fill.
+fn remaining(fill: Fill) -> u64
+    ensures { λ r. ⌜ r ≡ remaining (asFill fill) ⌝ }
+{
+    match fill {
+        Fill::Idle => 0,
+        Fill::Running(_, next, end) => difference(end, next),
+    }
+}
+
+// "k is the lesser of n and end - next (0 with no fill)"
+fn count_of(n: u32, fill: Fill) -> u32
+    ensures { λ r. ⌜ r ≡ workCount n (asFill fill) ⌝ }
+{
+    let left = remaining(fill);
+    if left < n as u64 { left as u32 } else { n }
+}
+
+// The sector that a fill writes next, 0 with no fill.
+fn next_of(fill: Fill) -> u64
+    ensures { λ r. ⌜ r ≡ nextOf (asFill fill) ⌝ }
+{
+    match fill {
+        Fill::Idle => 0,
+        Fill::Running(_, next, _) => next,
+    }
+}
+
+// Writes the fill's sector to the k places from `next` on.
+fn write_sectors(disk: &mut [u8], area: &[u8], next: u64, k: u32)
+    requires { ⌜ (length (now area) ≡ privateSize) × (sectorSize * (next + k) ≤ length (now disk)) ⌝ }
+    ensures { λ _. ⌜ now (disk .exit) ≡ sets (now (disk .entry)) (sectorSize * next) (repeated k (fillSectorOf (now (area .entry)))) ⌝ }
+{
+    let mut at = (512 * next) as usize;
+    let mut j = 0;
+    while j < k {
+        wire::copy_part(disk, at, area, 2112, 512);
+        at += 512;
+        j += 1;
+    }
+}
+
+// The device after k sectors of its fill.
+fn moved_on(d: Device, k: u32) -> Device
+    requires { ⌜ k ≤ remaining (asFill (d .command .fill)) ⌝ }
+    ensures { λ r. ⌜ Changed (movedOn k) d r ⌝ }
+{
+    if k == 0 {
+        return d;
+    }
+    let c = d.command;
+    let fill = c.fill;
+    let Fill::Running(first, next, end) = fill else {
+        return d;
+    };
+    control::advanced(d, first, next + k as u64, end)
+}
+
+// "writes the next sectors of a running fill, as many as n and what is left allow, and reports how many it wrote": n is a budget.
+pub fn work(r: &mut [u8], area: &[u8], disk: &mut [u8], n: u32) -> u32
+    requires { ⌜ (sound (now r) ≡ true) × (length (now area) ≡ privateSize) × (length (now disk) ≡ sectorSize * decode (now r) .device .native) ⌝ }
+    ensures count { λ k. ⌜ k ≡ workDone (now (r .entry)) (now (area .entry)) (now (disk .entry)) n .count ⌝ }
+    ensures bytes { λ _. ⌜ now (r .exit) ≡ workDone (now (r .entry)) (now (area .entry)) (now (disk .entry)) n .recordArea ⌝ }
+    ensures disk { λ _. ⌜ now (disk .exit) ≡ workDone (now (r .entry)) (now (area .entry)) (now (disk .entry)) n .disk ⌝ }
+{
+    let d = record::decode(r);
+    let c = d.command;
+    let fill = c.fill;
+    let k = count_of(n, fill);
+    write_sectors(disk, area, next_of(fill), k);
+    let e = moved_on(d, k);
+    writing::write(r, e);
+    k
+}

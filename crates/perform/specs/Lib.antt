@@ -1,0 +1,2 @@
+-- What carrying out a request leaves.
+pub mod Served

@@ -1,0 +1,64 @@
+// One sector read or written (24h and 34h).
+use crate::answering::answer;
+use crate::answering::finish;
+use command::Direction;
+use record::Device;
+ghost use mathlib.Core.Path.{_≡_};
+ghost use Prim.Native.Nat.{_+_, _*_, _≤_};
+ghost use lib.ListN.{length};
+ghost use Rattle.model.specs.Sizes.{sectorSize};
+ghost use Rattle.model.specs.Registers.{dataOf, good};
+ghost use Rattle.model.specs.Fill.{interrupt};
+ghost use Rattle.model.specs.Decide.{decision, readLba, writeLba, decideSector};
+ghost use Rattle.store.specs.Record.{decode};
+ghost use Rattle.store.specs.Store.{slotBytes};
+ghost use Rattle.record.specs.Meaning.{asDevice, stagesOf, historyOf};
+ghost use Rattle.command.specs.Meaning.{asDirection};
+ghost use Rattle.perform.specs.Served.{Served, Entered, Ready};
+
+fn read_sector(r: &mut [u8], area: &mut [u8], disk: &[u8], p: usize, d: Device, lba: u64)
+    requires { ⌜ Ready (now r) (now area) p d × (sectorSize * lba + sectorSize ≤ length (now disk)) ⌝ }
+    ensures { λ _. ⌜ Served p (decision (asDevice d (historyOf (now (r .entry)))) (good 0 0) (readLba lba)) (stagesOf (d .slots)) (now (area .entry)) (now (disk .entry)) (now (r .exit)) (now (area .exit)) (now (disk .entry)) ⌝ }
+{
+    let at = 528 * p;
+    reply::put_registers(area, at, reply::good(0, 0));
+    wire::copy_part(area, at + 16, disk, (512 * lba) as usize, 512);
+    finish(r, p, d);
+}
+
+// "The Segment Initialized flag is cleared by any sector written"
+fn write_sector(r: &mut [u8], area: &mut [u8], disk: &mut [u8], p: usize, d: Device, lba: u64)
+    requires { ⌜ Ready (now r) (now area) p d × (sectorSize * lba + sectorSize ≤ length (now disk)) ⌝ }
+    ensures { λ _. ⌜ Served p (decision (asDevice d (historyOf (now (r .entry)))) (good 0 0) (writeLba lba (dataOf (slotBytes p (now (area .entry)))))) (stagesOf (d .slots)) (now (area .entry)) (now (disk .entry)) (now (r .exit)) (now (area .exit)) (now (disk .exit)) ⌝ }
+{
+    wire::copy_part(disk, (512 * lba) as usize, area, 528 * p + 16, 512);
+    let e = control::cleared_flag(d);
+    answer(r, area, p, e, reply::good(0, 0));
+}
+
+// "24h and 34h: read or write one sector at the 48-bit LBA"
+pub fn serve_sector(
+    r: &mut [u8],
+    area: &mut [u8],
+    disk: &mut [u8],
+    p: usize,
+    dir: Direction,
+    count: u16,
+    lba: u64,
+)
+    requires { ⌜ Entered (now r) (now area) p × (length (now disk) ≡ sectorSize * decode (now r) .device .native) ⌝ }
+    ensures { λ _. ⌜ Served p (decideSector (asDirection dir) count lba (dataOf (slotBytes p (now (area .entry)))) (interrupt (decode (now (r .entry)) .device))) (decode (now (r .entry)) .stages) (now (area .entry)) (now (disk .entry)) (now (r .exit)) (now (area .exit)) (now (disk .exit)) ⌝ }
+{
+    let d = record::decode(r);
+    let error = command::sector_error(d.locked, d.visible, count, lba);
+    let e = control::interrupt(d);
+    if error != 0 {
+        answer(r, area, p, e, reply::refused(error));
+        return;
+    }
+    let Direction::Read = dir else {
+        write_sector(r, area, disk, p, e, lba);
+        return;
+    };
+    read_sector(r, area, disk, p, e, lba);
+}
