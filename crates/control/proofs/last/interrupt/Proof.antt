@@ -33,8 +33,14 @@ cleared-requires-4 c κs = search needs
 
 returns : tie.Need-returns
 returns c =
-    interrupted (c .before .before .before .before .before .before .before .before .before .before .before .before .before .args .d) (c .before .before .before .before .before .before .before .before .before .before .before .stopped-code .result) _ (c .before .before .before .before .before .before .before .before .cleared .result) (c .before .before .before .before .before .before .cleared2 .result) (c .before .before .before .before .cleared3 .result) (c .before .before .cleared4 .result) (c .before .before .before .before .before .before .before .before .before .before .before .before .before .pre)
-    (c .before .before .before .before .before .before .before .before .before .before .before .stopped-code .ensures) (c .before .before .before .before .before .before .before .before .cleared .ensures) (c .before .before .before .before .before .before .cleared2 .ensures) (c .before .before .before .before .cleared3 .ensures) (c .before .before .cleared4 .ensures)
+    let at-cleared4 = c .before .before in
+    let at-cleared3 = at-cleared4 .before .before in
+    let at-cleared2 = at-cleared3 .before .before in
+    let at-cleared = at-cleared2 .before .before in
+    let at-stopped-code = at-cleared .before .before .before in
+    let entry = at-stopped-code .before .before in
+    interrupted (entry .args .d) (at-stopped-code .stopped-code .result) _ (at-cleared .cleared .result) (at-cleared2 .cleared2 .result) (at-cleared3 .cleared3 .result) (at-cleared4 .cleared4 .result) (entry .pre)
+    (at-stopped-code .stopped-code .ensures) (at-cleared .cleared .ensures) (at-cleared2 .cleared2 .ensures) (at-cleared3 .cleared3 .ensures) (at-cleared4 .cleared4 .ensures)
 
 pub interrupt-spec : {M : Type 1} → statement M
 interrupt-spec =

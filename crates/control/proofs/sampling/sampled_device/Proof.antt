@@ -1,16 +1,12 @@
+-- `control::sampling::sampled_device` meets its contract.
 use Rattle.control.proofs.SampleLaws.{sampled-says}
 use borrow.Author.Needs.{needs}
 use Rattle.control.proofs.sampling.sampled_device.Statement.{statement}
 use Rattle.control.proofs.sampling.sampled_device.Tie as tie
-use Rattle.control.proofs.sampling.sampled_device.Reads as reads
-use Rattle.control.proofs.sampling.sampled_device.Lts as lts
-use Rattle.control.proofs.thermal.sampled_thermal.Reads as sampled-thermal-reads
 
--- src/sampling.rt:23:9
 sampled-thermal-requires : tie.Need-sampled-thermal-requires
 sampled-thermal-requires c κs = search needs
 
--- src/sampling.rt:18:1
 returns : tie.Need-returns
 returns c = sampled-says (c .before .before .args .reading) (c .before .before .args .d) _ (c .sampled-thermal .ensures)
 

@@ -20,26 +20,33 @@ is-interval-requires c κs = search needs
 returns : tie.Need-returns
 unfolding historyEmptied
 returns c =
-    let a = c .before .before .before .before .before .args in
+    let at-if1 = c .before in
+    let at-is-interval = at-if1 .before in
+    let at-with-feature = at-is-interval .before in
+    let entry = at-with-feature .before .before in
+    let a = entry .args in
     let name = asFeatureName (a .name) in
     record {
       device = λ h.
           let d = asDevice (a .d) h in
-          let emptied = interval-emptied name (withSettings (withFeature name (record { state = a .state; persistent = a .persistent }) (d .settings)) d) h (sym (c .before .before .is-interval .ensures) ∙ c .before .if1 .taken) in
-          rw (emptied .0, emptied .1) (ap (λ (t : Settings). withThermal (historyEmptied (d .thermal)) (withSettings t d)) (c .before .before .before .with-feature .ensures));
+          let emptied = interval-emptied name (withSettings (withFeature name (record { state = a .state; persistent = a .persistent }) (d .settings)) d) h (sym (at-is-interval .is-interval .ensures) ∙ at-if1 .if1 .taken) in
+          rw (emptied .0, emptied .1) (ap (λ (t : Settings). withThermal (historyEmptied (d .thermal)) (withSettings t d)) (at-with-feature .with-feature .ensures));
       stages = refl;
       four = refl;
     }
 
 returns-2 : tie.Need-returns-2
 returns-2 c =
-    let a = c .before .before .before .before .args in
+    let at-is-interval = c .before in
+    let at-with-feature = at-is-interval .before in
+    let entry = at-with-feature .before .before in
+    let a = entry .args in
     let name = asFeatureName (a .name) in
     record {
       device = λ h.
           let d = asDevice (a .d) h in
-          let kept = other-kept name (withSettings (withFeature name (record { state = a .state; persistent = a .persistent }) (d .settings)) d) h (sym (c .before .is-interval .ensures) ∙ c .if1 .left) in
-          rw (kept .0, kept .1) (ap (λ (t : Settings). withSettings t d) (c .before .before .with-feature .ensures));
+          let kept = other-kept name (withSettings (withFeature name (record { state = a .state; persistent = a .persistent }) (d .settings)) d) h (sym (at-is-interval .is-interval .ensures) ∙ c .if1 .left) in
+          rw (kept .0, kept .1) (ap (λ (t : Settings). withSettings t d) (at-with-feature .with-feature .ensures));
       stages = refl;
       four = refl;
     }

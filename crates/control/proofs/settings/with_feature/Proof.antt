@@ -25,8 +25,12 @@ returns-2 c =
 
 returns-3 : tie.Need-returns-3
 returns-3 c =
-    let a = c .before .before .before .before .args in
-    reordering-set (asFeatureName (a .name)) (asFeature (a .f)) (asSettings (a .s)) (sym (c .before .before .before .is-cache .ensures) ∙ c .before .before .if1 .left) (sym (c .before .is-interval .ensures) ∙ c .if2 .left)
+    let at-is-interval = c .before in
+    let at-if1 = at-is-interval .before in
+    let at-is-cache = at-if1 .before in
+    let entry = at-is-cache .before in
+    let a = entry .args in
+    reordering-set (asFeatureName (a .name)) (asFeature (a .f)) (asSettings (a .s)) (sym (at-is-cache .is-cache .ensures) ∙ at-if1 .if1 .left) (sym (at-is-interval .is-interval .ensures) ∙ c .if2 .left)
 
 pub with-feature-spec : {M : Type 1} → statement M
 with-feature-spec =

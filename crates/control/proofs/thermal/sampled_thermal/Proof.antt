@@ -21,18 +21,28 @@ next-index-requires c κs = search needs
 
 returns : tie.Need-returns
 returns c =
-    let a = c .before .before .before .before .before .args in
-    sampled-logged (a .t) (a .interval) (a .sample) _ _ (c .before .before .before .before .new-maximum .ensures) (c .before .before .before .new-maximum2 .ensures) (c .next-index .result) (c .next-index .ensures)
-    (not-true _ (sym (c .before .before .logs .ensures) ∙ c .before .if1 .taken))
+    let at-if1 = c .before in
+    let at-logs = at-if1 .before in
+    let at-new-maximum2 = at-logs .before in
+    let at-new-maximum = at-new-maximum2 .before in
+    let entry = at-new-maximum .before in
+    let a = entry .args in
+    sampled-logged (a .t) (a .interval) (a .sample) _ _ (at-new-maximum .new-maximum .ensures) (at-new-maximum2 .new-maximum2 .ensures) (c .next-index .result) (c .next-index .ensures)
+    (not-true _ (sym (at-logs .logs .ensures) ∙ at-if1 .if1 .taken))
 
 add-t8 : tie.Need-add-t8
 add-t8 c = search needs
 
 returns-2 : tie.Need-returns-2
 returns-2 c =
-    let a = c .before .before .before .before .before .args in
-    sampled-counted (a .t) (a .interval) (a .sample) _ _ (c .before .before .before .before .new-maximum .ensures) (c .before .before .before .new-maximum2 .ensures) _ (omega arith)
-    (not-false _ (sym (c .before .before .logs .ensures) ∙ c .before .if1 .left))
+    let at-if1 = c .before in
+    let at-logs = at-if1 .before in
+    let at-new-maximum2 = at-logs .before in
+    let at-new-maximum = at-new-maximum2 .before in
+    let entry = at-new-maximum .before in
+    let a = entry .args in
+    sampled-counted (a .t) (a .interval) (a .sample) _ _ (at-new-maximum .new-maximum .ensures) (at-new-maximum2 .new-maximum2 .ensures) _ (omega arith)
+    (not-false _ (sym (at-logs .logs .ensures) ∙ at-if1 .if1 .left))
 
 pub sampled-thermal-spec : {M : Type 1} → statement M
 sampled-thermal-spec =

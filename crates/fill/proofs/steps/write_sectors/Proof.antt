@@ -1,18 +1,16 @@
+-- `fill::steps::write_sectors` meets its contract.
 use native.Mathlib.Numerals.{add-one}
-use mathlib.Core.Path.{_≡_, refl, sym, ap, _∙_}
-use Prim.Native.Nat.{_+_, _*_, _-_, _≤_, _<_, zero-le}
+use mathlib.Core.Path.{_≡_, refl}
+use Prim.Native.Nat.{_+_, _*_, _-_, _≤_, zero-le}
 use native.Mathlib.Omega.{arith}
 use lib.ListN.{length}
 use lib.Seq.{sets, length-sets}
-use Rattle.wire.specs.Parts.{part, repeated}
+use Rattle.wire.specs.Parts.{repeated}
 use Rattle.wire.proofs.RunLaws.{repeat-more}
 use Rattle.wire.proofs.PartsLaws.{length-part}
 use Rattle.store.specs.Store.{fillSectorOf}
 use Rattle.fill.proofs.steps.write_sectors.Statement.{statement}
 use Rattle.fill.proofs.steps.write_sectors.Tie as tie
-use Rattle.fill.proofs.steps.write_sectors.Reads as reads
-use Rattle.fill.proofs.steps.write_sectors.Lts as lts
-use Rattle.wire.proofs.copy_part.Reads as copy-part-reads
 
 abbrev Inv-loop : tie.InvT-loop
 Inv-loop disk₀ area next k at₀ j₀ disk at j = (j ≤ k) × (length disk ≡ length disk₀) × (at ≡ 512 * next + 512 * j) × (disk ≡ sets disk₀ (512 * next) (repeated j (fillSectorOf area)))
@@ -20,46 +18,40 @@ Inv-loop disk₀ area next k at₀ j₀ disk at j = (j ≤ k) × (length disk �
 abbrev μ-loop : tie.MeasureT-loop
 μ-loop disk₀ area next k at₀ j₀ disk at j = k - j
 
--- src/steps.rt:61:19
 mul-at : tie.Need-mul-at Inv-loop μ-loop
 mul-at c = omega (arith, c .before .before .pre)
 
--- src/steps.rt:63:5
 loop-holds : tie.Need-loop-holds Inv-loop μ-loop
 unfolding repeated
 loop-holds c = (zero-le, refl, omega arith, refl)
 
--- src/steps.rt:64:9
 copy-part-requires : tie.Need-copy-part-requires Inv-loop μ-loop
 copy-part-requires c κs = omega (arith, c .before .before .before .before .before .pre, c .before .before .loop .inv)
 
--- src/steps.rt:65:9
 add-at : tie.Need-add-at Inv-loop μ-loop
 add-at c = omega (arith, c .before .before .before .before .before .before .before .before .pre, c .before .before .before .before .before .loop .inv)
 
--- src/steps.rt:66:9
 add-j : tie.Need-add-j Inv-loop μ-loop
 add-j c = omega (arith, c .before .before .before .before .before .before .before .before .pre, c .before .before .before .before .before .loop .inv)
 
--- src/steps.rt:63:5
 loop-less : tie.Need-loop-less Inv-loop μ-loop
 loop-less c = omega arith
 
--- src/steps.rt:63:5
 loop-again : tie.Need-loop-again Inv-loop μ-loop
 loop-again c =
-    let a = c .before .before .before .before .before .before .before .before .args in (
+    let at-copy-part = c .before .before in
+    let at-loop = at-copy-part .before .before .before in
+    let entry = at-loop .before .before .before in
+    let a = entry .args in (
       omega arith,
-      rw (c .before .before .copy-part .ensures, length-sets) (c .before .before .before .before .before .loop .inv .1),
+      rw (at-copy-part .copy-part .ensures, length-sets) (at-loop .loop .inv .1),
       omega arith,
-      rw (c .before .before .copy-part .ensures, c .before .before .before .before .before .loop .inv .3, c .before .before .before .before .before .loop .inv .2, add-one) (repeat-more (a .disk .now) (fillSectorOf (a .area .now)) (512 * a .next) 512 (c .before .before .before .before .before .loop .j) (length-part (a .area .now) 2112 512 (omega (arith, c .before .before .before .before .before .before .before .before .pre)))),
+      rw (at-copy-part .copy-part .ensures, at-loop .loop .inv .3, at-loop .loop .inv .2, add-one) (repeat-more (a .disk .now) (fillSectorOf (a .area .now)) (512 * a .next) 512 (at-loop .loop .j) (length-part (a .area .now) 2112 512 (omega (arith, entry .pre)))),
     )
 
--- src/steps.rt:57:1
 same-length : tie.Need-same-length Inv-loop μ-loop
 same-length c = c .before .loop .inv .1
 
--- src/steps.rt:57:1
 returns : tie.Need-returns Inv-loop μ-loop
 returns c =
     let past : c .before .loop .j ≡ c .before .before .before .before .args .k = omega arith in

@@ -1,20 +1,16 @@
+-- `perform::transfer::pending_of` meets its contract.
 use native.Mathlib.Omega.{arith}
 use Rattle.perform.proofs.TransferLaws.{slot-pending}
 use borrow.Author.Needs.{needs}
 use Rattle.perform.proofs.transfer.pending_of.Statement.{statement}
 use Rattle.perform.proofs.transfer.pending_of.Tie as tie
-use Rattle.perform.proofs.transfer.pending_of.Reads as reads
-use Rattle.perform.proofs.transfer.pending_of.Lts as lts
 
--- src/transfer.rt:32:13
 mul-s : tie.Need-mul-s
 mul-s c = search needs
 
--- src/transfer.rt:32:13
 array-copy-out-s : tie.Need-array-copy-out-s
 array-copy-out-s c = search needs
 
--- src/transfer.rt:27:1
 returns : tie.Need-returns
 returns c = slot-pending (c .before .before .args .d .slots) (c .before .before .args .p) _ (omega (arith, c .before .before .pre))
 
