@@ -2,5 +2,3 @@
 pub mod EntryInPlace
 pub mod ChainLaws
 pub mod RefusalLaws
-pub mod SaveLaws
-pub mod RestoreLaws

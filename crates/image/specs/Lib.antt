@@ -1,4 +1,2 @@
--- Definitions of the image crate, in reading order.
+-- An entry tested in place.
 pub mod InPlace
-pub mod Head
-pub mod Restore

@@ -1,0 +1,2 @@
+-- Laws of what power-on restores.
+pub mod RestoreLaws

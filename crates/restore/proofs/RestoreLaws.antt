@@ -1,0 +1,105 @@
+-- The device that power-on makes, and the record of it.
+use mathlib.Core.Path.{_≡_, sym, ap, _∙_}
+use mathlib.Core.Bool.{Bool, false}
+use Prim.Native.Nat.{ℕ, _+_, _-_, _≤_}
+use native.Mathlib.Omega.{arith}
+use mathlib.Core.List.{List}
+use lib.ListN.{length, replicate}
+use lib.Seq.{sets}
+use lib.Dec.{eqb}
+use borrow.Author.Tests.{eq-eqb, ne-eqb}
+use Rattle.wire.specs.Choice.{if_then_else_, firstFailed}
+use Rattle.wire.specs.Numbers.{get}
+use Rattle.wire.specs.Parts.{part}
+use Rattle.wire.specs.Bytes.{Bytes}
+use Rattle.wire.proofs.PartsLaws.{length-part, part-same}
+use Rattle.model.specs.Sizes.{portCount, missing, bodySize, entrySize}
+use Rattle.model.specs.Device.{idle, Settings, Device}
+use Rattle.model.specs.Temperature.{emptyHistory, emptyIndex}
+use Rattle.model.specs.Fill.{nothingPending}
+use Rattle.model.specs.Image.{Saved, savedIn, trailerPlace, entries, imageChecks, blank, powerOnSettings, powerOnThermal, powerOn, restored}
+use Rattle.model.proofs.ImageLaws.{readable-parts}
+use Rattle.store.specs.Record.{Stage, empty, encode}
+use Rattle.record.specs.Meaning.{historyOf}
+use Rattle.writing.specs.Framed.{Framed}
+use Rattle.writing.proofs.FramedLaws.{history-stored}
+use Rattle.image.specs.InPlace.{savedAt}
+use Rattle.image.proofs.EntryInPlace.{saved-at}
+use Rattle.image.proofs.RefusalLaws.{read-readable, read-entry}
+use Rattle.restore.specs.Restored.{restoredContents}
+
+-- a device with these values, and all else as power-on leaves it
+abbrev pub poweredDevice : ℕ → ℕ → Bool → ℕ → Settings → ℕ → List ℕ → Device
+poweredDevice native visible initialized life settings index history =
+    record {
+      native = native;
+      visible = visible;
+      locked = false;
+      initialized = initialized;
+      command = record { code = 0; action = 0; function = 0; fill = idle; pending = nothingPending };
+      settings = settings;
+      thermal = record { now = missing; cycleMaximum = missing; lifeMaximum = life; history = history; index = index; minutes = 0 };
+    }
+
+pub powered-is : (s : Saved) (native visible : ℕ) (initialized : Bool) (life : ℕ) (settings : Settings) (index : ℕ)
+    → native ≡ s .native → visible ≡ s .visible → initialized ≡ s .initialized → life ≡ s .lifeMaximum → settings ≡ powerOnSettings s
+    → index ≡ powerOnThermal s .index
+    → poweredDevice native visible initialized life settings index (powerOnThermal s .history) ≡ powerOn s
+unfolding powerOn
+powered-is s native visible initialized life settings index en ev ei el es ex =
+    λ j. poweredDevice (en j) (ev j) (ei j) (el j) (es j) (ex j) (powerOnThermal s .history)
+
+-- the index that is kept, from the interval after power-on
+pub index-kept : (s : Saved) (settings : Settings) (index : ℕ) → settings ≡ powerOnSettings s
+    → index ≡ (if eqb (settings .logInterval .state) (s .logInterval .state) then s .index else emptyIndex)
+    → index ≡ powerOnThermal s .index
+index-kept s settings index es e =
+    e ∙ ap (λ (t : Settings). if eqb (t .logInterval .state) (s .logInterval .state) then s .index else emptyIndex) es
+
+-- .. and the history
+pub history-kept : (s : Saved) (d : Device) (history : List ℕ) → d ≡ powerOn s
+    → history ≡ (if eqb (d .settings .logInterval .state) (s .logInterval .state) then s .history else emptyHistory)
+    → history ≡ powerOnThermal s .history
+unfolding powerOn
+history-kept s d history ed e =
+    e ∙ ap (λ (x : Device). if eqb (x .settings .logInterval .state) (s .logInterval .state) then s .history else emptyHistory) ed
+
+-- ---- the history in the record
+
+abbrev historyAfter : List ℕ → ℕ → ℕ → List ℕ
+historyAfter image at interval = if eqb interval (savedAt image at .logInterval .state) then savedAt image at .history else emptyHistory
+
+module _ (r image : List ℕ) (at interval : ℕ) (f : Framed r) where
+  pub history-copied : interval ≡ get 2 image (at + 22) → at + bodySize ≤ length image
+      → Framed (sets r 546 (part image (at + 66) 478)) × (historyOf (sets r 546 (part image (at + 66) 478)) ≡ historyAfter image at interval)
+  unfolding savedAt
+  history-copied e fits = (
+    history-stored r 546 (part image (at + 66) 478) (omega arith) f,
+    part-same (part image (at + 66) 478) r 546 478 (length-part image (at + 66) 478 (omega arith)) (omega (arith, f .size))
+        ∙ rw (eq-eqb interval (get 2 image (at + 22)) e),
+  )
+
+  pub history-left : (interval ≡ get 2 image (at + 22) → ⊥) → historyOf r ≡ emptyHistory → Framed r × (historyOf r ≡ historyAfter image at interval)
+  unfolding savedAt
+  history-left ne h = (f, h ∙ rw (ne-eqb interval (get 2 image (at + 22)) ne))
+
+-- ---- the record
+
+pub restored-encoded : (d : Device) (stages : List Stage) (s : Saved) → d ≡ powerOn s → stages ≡ replicate portCount empty
+    → encode (record { device = d; stages = stages }) ≡ encode (restoredContents s)
+restored-encoded d stages s ed es = λ j. encode (record { device = ed j; stages = es j })
+
+module _ (native : ℕ) (image : List ℕ) (used : ℕ) where
+  pub restored-blank : used ≡ 0 → blank native ≡ restored native image used
+  unfolding restored
+  restored-blank e = rw (eq-eqb used 0 e)
+
+  pub restored-newest : Bytes image → firstFailed (imageChecks native image used) ≡ 0 → (used ≡ 0 → ⊥) → savedAt image (used - entrySize) ≡ restored native image used
+  unfolding restored
+  restored-newest b e some =
+      let within = read-entry native image used e some in
+      let even = readable-parts image used (read-readable native image used e) .multiple in
+      let place : trailerPlace (entries used) - bodySize ≡ used - entrySize = omega (arith, within .0) in
+      sym
+      (rw (ne-eqb used 0 some)
+      (ap (λ (at : ℕ). savedIn (part image at bodySize)) place ∙ saved-at image (used - entrySize) b (omega (arith, within .0, within .1))))

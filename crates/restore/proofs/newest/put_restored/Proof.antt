@@ -1,0 +1,52 @@
+-- `restore::newest::put_restored` meets its contract.
+use mathlib.Core.Path.{ap, _∙_}
+use native.Mathlib.Omega.{arith}
+use Rattle.model.specs.Image.{Saved}
+use Rattle.store.specs.Record.{encode}
+use Rattle.image.proofs.RefusalLaws.{read-entry}
+use Rattle.restore.specs.Restored.{restoredContents}
+use Rattle.restore.proofs.RestoreLaws.{restored-blank, restored-newest}
+use borrow.Author.Needs.{needs}
+use Rattle.restore.proofs.newest.put_restored.Statement.{statement}
+use Rattle.restore.proofs.newest.put_restored.Tie as tie
+
+restore-blank-requires : tie.Need-restore-blank-requires
+restore-blank-requires c κs = search needs
+
+sub-restore-entry : tie.Need-sub-restore-entry
+sub-restore-entry c = let a = c .before .before .before .before .args in read-entry (a .native) (a .image .now) (a .used) (c .before .before .before .before .pre .1) (c .before .if1 .left) .0
+
+restore-entry-requires : tie.Need-restore-entry-requires
+restore-entry-requires c κs =
+    let a = c .before .before .before .before .args in
+    let within = read-entry (a .native) (a .image .now) (a .used) (c .before .before .before .before .pre .1) (c .before .if1 .left) in
+    (c .before .before .before .before .pre .0, omega (arith, within .0, within .1))
+
+same-length : tie.Need-same-length
+same-length c = search needs
+
+returns : tie.Need-returns
+returns c =
+    let a = c .before .before .before .before .before .before .before .args in
+    c .before .before .restore-blank .ensures ∙ ap (λ (s : Saved). encode (restoredContents s)) (restored-blank (a .native) (a .image .now) (a .used) (c .before .before .before .before .if1 .taken))
+
+same-length-2 : tie.Need-same-length-2
+same-length-2 c = search needs
+
+returns-2 : tie.Need-returns-2
+returns-2 c =
+    let a = c .before .before .before .before .before .before .before .args in
+    c .before .before .restore-entry .ensures
+    ∙ ap (λ (s : Saved). encode (restoredContents s)) (restored-newest (a .native) (a .image .now) (a .used) (λ i. omega (arith, c .before .before .before .before .before .shared-slice-known .given i)) (c .before .before .before .before .before .before .before .pre .1) (c .before .before .before .before .if1 .left))
+
+pub put-restored-spec : {M : Type 1} → statement M
+put-restored-spec =
+    tie.close
+    (tie.spec
+    restore-blank-requires
+    sub-restore-entry
+    restore-entry-requires
+    same-length
+    returns
+    same-length-2
+    returns-2)

@@ -1,0 +1,66 @@
+-- `restore::newest::saved_device` meets its contract.
+use mathlib.Core.Path.{ap}
+use Prim.Native.Nat.{ℕ}
+use lib.Dec.{eqb}
+use Rattle.image.specs.InPlace.{savedAt}
+use Rattle.restore.proofs.RestoreLaws.{index-kept}
+use borrow.Author.Needs.{needs}
+use Rattle.restore.proofs.newest.saved_device.Statement.{statement}
+use Rattle.restore.proofs.newest.saved_device.Tie as tie
+
+u64-at-requires : tie.Need-u64-at-requires
+u64-at-requires c κs = search needs
+
+add-u64-at : tie.Need-add-u64-at
+add-u64-at c = search needs
+
+u64-at-requires-2 : tie.Need-u64-at-requires-2
+u64-at-requires-2 c κs = search needs
+
+add-u8-at : tie.Need-add-u8-at
+add-u8-at c = search needs
+
+u8-at-requires : tie.Need-u8-at-requires
+u8-at-requires c κs = search needs
+
+add-u8-at-2 : tie.Need-add-u8-at-2
+add-u8-at-2 c = search needs
+
+u8-at-requires-2 : tie.Need-u8-at-requires-2
+u8-at-requires-2 c κs = search needs
+
+saved-settings-requires : tie.Need-saved-settings-requires
+saved-settings-requires c κs = search needs
+
+kept-index-requires : tie.Need-kept-index-requires
+kept-index-requires c κs = search needs
+
+powered-requires : tie.Need-powered-requires
+powered-requires c κs = search needs
+
+returns : tie.Need-returns
+unfolding savedAt
+returns c =
+    let a = c .before .before .before .before .before .before .before .before .args in
+    let s = savedAt (a .image .now) (a .at) in
+    let es = c .before .before .saved-settings .ensures in (
+      c .powered .ensures .0 s (c .before .before .before .before .before .before .u64-at .ensures) (c .before .before .before .before .before .u64-at2 .ensures) (ap (λ (n : ℕ). eqb n 1) (c .before .before .before .before .u8-at .ensures)) (c .before .before .before .u8-at2 .ensures) es
+          (index-kept s _ _ es (c .before .kept-index .ensures)),
+      c .powered .ensures .1,
+    )
+
+pub saved-device-spec : {M : Type 1} → statement M
+saved-device-spec =
+    tie.close
+    (tie.spec
+    u64-at-requires
+    add-u64-at
+    u64-at-requires-2
+    add-u8-at
+    u8-at-requires
+    add-u8-at-2
+    u8-at-requires-2
+    saved-settings-requires
+    kept-index-requires
+    powered-requires
+    returns)

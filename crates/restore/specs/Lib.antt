@@ -1,0 +1,2 @@
+-- The record's contents after a power-on.
+pub mod Restored

@@ -1,0 +1,198 @@
+// What power-on restores: the device of the newest entry, or of an empty image.
+use record::Command;
+use record::Device;
+use record::Feature;
+use record::Fill;
+use record::Settings;
+use record::Slot;
+use record::Stage;
+use record::Thermal;
+use record::Transfer;
+ghost use mathlib.Core.Path.{_≡_};
+ghost use Prim.Native.Nat.{_+_, _≤_};
+ghost use lib.ListN.{length, replicate};
+ghost use lib.Dec.{eqb};
+ghost use Rattle.wire.specs.Choice.{if_then_else_, firstFailed};
+ghost use Rattle.model.specs.Sizes.{portCount, bodySize};
+ghost use Rattle.model.specs.Temperature.{emptyHistory, emptyIndex};
+ghost use Rattle.model.specs.Image.{Saved, hasBit, imageChecks, blank, powerOnSettings, powerOnThermal, powerOn, restored};
+ghost use Rattle.store.specs.Areas.{recordSize};
+ghost use Rattle.store.specs.Record.{empty, encode};
+ghost use Rattle.record.specs.Meaning.{asSettings, asDevice, stagesOf, historyOf};
+ghost use Rattle.writing.specs.Framed.{Framed};
+ghost use Rattle.image.specs.InPlace.{savedAt};
+ghost use Rattle.restore.specs.Restored.{restoredContents};
+
+// Whether the bit of a weight (1, 2, 4 ..) is 1 in a byte.
+fn has_bit(weight: u8, byte: u8) -> bool
+    requires { ⌜ 1 ≤ weight ⌝ }
+    ensures { λ r. ⌜ r ≡ hasBit weight byte ⌝ }
+{
+    byte / weight % 2 == 1
+}
+
+// The settings of the entry at `at`, as power-on leaves them.
+fn saved_settings(image: &[u8], at: usize) -> Settings
+    requires { ⌜ at + bodySize ≤ length (now image) ⌝ }
+    ensures { λ r. ⌜ asSettings r ≡ powerOnSettings (savedAt (now (image .entry)) at) ⌝ }
+{
+    let options = wire::u8_at(image, at + 24);
+    let cache = Feature {
+        state: wire::u16_at(image, at + 18),
+        persistent: has_bit(1, options),
+    };
+    let reordering = Feature {
+        state: wire::u16_at(image, at + 20),
+        persistent: has_bit(2, options),
+    };
+    let interval = Feature {
+        state: wire::u16_at(image, at + 22),
+        persistent: has_bit(4, options),
+    };
+    Settings::power_on(cache, reordering, interval)
+}
+
+// A device at power-on: "Unlocked, no fill, nothing owed, .. code, action and function 0".
+fn powered(
+    native: u64,
+    visible: u64,
+    initialized: bool,
+    life: u8,
+    settings: Settings,
+    index: u16,
+) -> Device
+    ensures { λ r. ⌜ ((s : Saved) → native ≡ s .native → visible ≡ s .visible → initialized ≡ s .initialized → life ≡ s .lifeMaximum → asSettings settings ≡ powerOnSettings s → index ≡ powerOnThermal s .index → asDevice r (powerOnThermal s .history) ≡ powerOn s) ⌝ }
+    ensures stages { λ r. ⌜ stagesOf (r .slots) ≡ replicate portCount empty ⌝ }
+{
+    Device {
+        native,
+        visible,
+        locked: false,
+        initialized,
+        command: Command {
+            code: 0,
+            action: 0,
+            function: 0,
+            fill: Fill::Idle,
+        },
+        settings,
+        thermal: Thermal {
+            current: 0x80,
+            cycle: 0x80,
+            life,
+            index,
+            minutes: 0,
+        },
+        slots: [
+            Slot {
+                stage: Stage::Empty,
+                pending: Transfer::None,
+            },
+            Slot {
+                stage: Stage::Empty,
+                pending: Transfer::None,
+            },
+            Slot {
+                stage: Stage::Empty,
+                pending: Transfer::None,
+            },
+            Slot {
+                stage: Stage::Empty,
+                pending: Transfer::None,
+            },
+        ],
+    }
+}
+
+// "Power-on from length 0 gives V = N, no flag, missing temperatures, defaults, empty history"
+fn blank_device(native: u64) -> Device
+    ensures { λ r. ⌜ asDevice r emptyHistory ≡ powerOn (blank native) ⌝ }
+    ensures stages { λ r. ⌜ stagesOf (r .slots) ≡ replicate portCount empty ⌝ }
+{
+    let f = Feature {
+        state: 1,
+        persistent: false,
+    };
+    powered(
+        native,
+        native,
+        false,
+        0x80,
+        Settings::power_on(f, f, f),
+        477,
+    )
+}
+
+// "The history is kept if the interval after power-on equals the saved one": its index.
+fn kept_index(image: &[u8], at: usize, interval: u16) -> u16
+    requires { ⌜ at + bodySize ≤ length (now image) ⌝ }
+    ensures { λ r. ⌜ r ≡ (if eqb interval (savedAt (now (image .entry)) at .logInterval .state) then savedAt (now (image .entry)) at .index else emptyIndex) ⌝ }
+{
+    if interval == wire::u16_at(image, at + 22) {
+        wire::u16_at(image, at + 64)
+    } else {
+        477
+    }
+}
+
+// The device of the entry at `at`.
+fn saved_device(image: &[u8], at: usize) -> Device
+    requires { ⌜ at + bodySize ≤ length (now image) ⌝ }
+    ensures { λ r. ⌜ asDevice r (powerOnThermal (savedAt (now (image .entry)) at) .history) ≡ powerOn (savedAt (now (image .entry)) at) ⌝ }
+    ensures stages { λ r. ⌜ stagesOf (r .slots) ≡ replicate portCount empty ⌝ }
+{
+    let native = wire::u64_at(image, at);
+    let visible = wire::u64_at(image, at + 8);
+    let initialized = wire::u8_at(image, at + 16) == 1;
+    let life = wire::u8_at(image, at + 17);
+    let settings = saved_settings(image, at);
+    let interval = settings.interval.state;
+    let index = kept_index(image, at, interval);
+    powered(native, visible, initialized, life, settings, index)
+}
+
+// Copies the history of the entry at `at` into the record, where the interval is still its own.
+fn put_history(r: &mut [u8], image: &[u8], at: usize, interval: u16)
+    requires { ⌜ (Framed (now r)) × (at + bodySize ≤ length (now image)) × (historyOf (now r) ≡ emptyHistory) ⌝ }
+    ensures { λ _. ⌜ Framed (now (r .exit)) ⌝ }
+    ensures history { λ _. ⌜ historyOf (now (r .exit)) ≡ (if eqb interval (savedAt (now (image .entry)) at .logInterval .state) then savedAt (now (image .entry)) at .history else emptyHistory) ⌝ }
+{
+    if interval == wire::u16_at(image, at + 22) {
+        wire::copy_part(r, 546, image, at + 66, 478);
+    }
+}
+
+// The record of an empty image's device.
+fn restore_blank(r: &mut [u8], native: u64)
+    requires { ⌜ length (now r) ≡ recordSize ⌝ }
+    ensures { λ _. ⌜ now (r .exit) ≡ encode (restoredContents (blank native)) ⌝ }
+{
+    let d = blank_device(native);
+    writing::frame(r);
+    writing::write(r, d);
+}
+
+// The record of the device of the entry at `at`.
+fn restore_entry(r: &mut [u8], image: &[u8], at: usize)
+    requires { ⌜ (length (now r) ≡ recordSize) × (at + bodySize ≤ length (now image)) ⌝ }
+    ensures { λ _. ⌜ now (r .exit) ≡ encode (restoredContents (savedAt (now (image .entry)) at)) ⌝ }
+{
+    let d = saved_device(image, at);
+    let interval = d.settings.interval.state;
+    writing::frame(r);
+    put_history(r, image, at, interval);
+    writing::write(r, d);
+}
+
+// The record after a power-on from this image, on a disk of `native` sectors.
+pub fn put_restored(r: &mut [u8], native: u64, image: &[u8], used: usize)
+    requires { ⌜ length (now r) ≡ recordSize ⌝ }
+    requires readable { ⌜ firstFailed (imageChecks native (now image) used) ≡ 0 ⌝ }
+    ensures { λ _. ⌜ now (r .exit) ≡ encode (restoredContents (restored native (now (image .entry)) used)) ⌝ }
+{
+    if used == 0 {
+        restore_blank(r, native);
+    } else {
+        restore_entry(r, image, used - 560);
+    }
+}

@@ -1,0 +1,2 @@
+-- Laws of what a save stores.
+pub mod SaveLaws

@@ -1,0 +1,55 @@
+-- `save::appending::put_entry` meets its contract.
+use native.Mathlib.Omega.{arith}
+use Rattle.store.proofs.SoundLaws.{sound-parts}
+use Rattle.save.proofs.SaveLaws.{entry-stored}
+use borrow.Author.Needs.{needs}
+use Rattle.save.proofs.appending.put_entry.Statement.{statement}
+use Rattle.save.proofs.appending.put_entry.Tie as tie
+
+put-sizes-requires : tie.Need-put-sizes-requires
+put-sizes-requires c κs = (omega arith, sound-parts _ (c .before .before .before .pre .0) .size)
+
+put-features-requires : tie.Need-put-features-requires
+put-features-requires c κs = (omega arith, sound-parts _ (c .before .before .before .before .before .before .before .pre .0) .size)
+
+add-copy-part : tie.Need-add-copy-part
+add-copy-part c = search needs
+
+copy-part-requires : tie.Need-copy-part-requires
+copy-part-requires c κs = (omega arith, omega (arith, sound-parts _ (c .before .before .before .before .before .before .before .before .before .before .before .pre .0) .size))
+
+add-put-trailer : tie.Need-add-put-trailer
+add-put-trailer c = search needs
+
+cast-put-trailer : tie.Need-cast-put-trailer
+cast-put-trailer c = search needs
+
+add-put-trailer-2 : tie.Need-add-put-trailer-2
+add-put-trailer-2 c = search needs
+
+put-trailer-requires : tie.Need-put-trailer-requires
+put-trailer-requires c κs = search needs
+
+same-length : tie.Need-same-length
+same-length c = search needs
+
+returns : tie.Need-returns
+returns c =
+    let a = c .before .before .before .before .before .before .before .before .before .before .before .before .before .before .before .before .before .before .args in
+    rw (c .before .before .put-trailer .ensures, c .before .before .before .before .before .before .copy-part .ensures, c .before .before .before .before .before .before .before .before .before .before .put-features .ensures, c .before .before .before .before .before .before .before .before .before .before .before .before .before .before .put-sizes .ensures)
+    (entry-stored (a .r .now) (a .image .now) (a .used) _ (λ i. omega (arith, c .before .before .before .before .before .before .before .before .before .before .before .before .before .before .before .before .shared-slice-known .given i)) (c .before .before .before .before .before .before .before .before .before .before .before .before .before .before .before .before .before .before .pre .0) (omega arith))
+
+pub put-entry-spec : {M : Type 1} → statement M
+put-entry-spec =
+    tie.close
+    (tie.spec
+    put-sizes-requires
+    put-features-requires
+    add-copy-part
+    copy-part-requires
+    add-put-trailer
+    cast-put-trailer
+    add-put-trailer-2
+    put-trailer-requires
+    same-length
+    returns)

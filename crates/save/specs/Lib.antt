@@ -1,0 +1,2 @@
+-- The head of an entry's body.
+pub mod Head

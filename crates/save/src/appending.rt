@@ -1,0 +1,83 @@
+// A save: one entry, from the record's bytes.
+use image::TAG;
+use image::previous_place;
+ghost use mathlib.Core.Path.{_≡_};
+ghost use mathlib.Core.Bool.{true};
+ghost use Prim.Native.Nat.{_+_, _*_, _/_, _≤_, _<_};
+ghost use lib.ListN.{length};
+ghost use lib.Seq.{sets};
+ghost use Rattle.wire.specs.Numbers.{get};
+ghost use Rattle.wire.specs.Choice.{bit};
+ghost use Rattle.wire.specs.Parts.{zeros};
+ghost use Rattle.wire.specs.Layout.{stores, placed};
+ghost use Rattle.model.specs.Sizes.{trailerSize, entrySize, entryLimit};
+ghost use Rattle.model.specs.Image.{headSize, trailerBytes, savedImage};
+ghost use Rattle.store.specs.Areas.{recordSize};
+ghost use Rattle.store.specs.Record.{flagOf, decode};
+ghost use Rattle.store.specs.Sound.{sound};
+ghost use Rattle.save.specs.Head.{sizesOf, featuresOf};
+
+// Writes trailer `number` at `at`.
+fn put_trailer(image: &mut [u8], at: usize, number: u32)
+    requires { ⌜ (at + trailerSize ≤ length (now image)) × (1 ≤ number) × (number ≤ entryLimit) ⌝ }
+    ensures { λ _. ⌜ now (image .exit) ≡ sets (now (image .entry)) at (trailerBytes number) ⌝ }
+{
+    let letters = TAG;
+    wire::zero_part(image, at, 12);
+    wire::put_u32(image, at, 544);
+    wire::put_u32(image, at + 4, previous_place(number));
+    wire::put_u32(image, at + 8, number);
+    wire::copy_part(image, at + 12, &letters, 0, 4);
+}
+
+// The flag in the record's byte at `at`, as 0 or 1.
+fn flag_bit(r: &[u8], at: usize) -> u8
+    requires { ⌜ at + 1 ≤ length (now r) ⌝ }
+    ensures { λ res. ⌜ res ≡ bit (flagOf (get 1 (now (r .entry)) at)) ⌝ }
+    ensures small { λ res. ⌜ res ≤ 1 ⌝ }
+{
+    if wire::u8_at(r, at) == 1 { 1 } else { 0 }
+}
+
+// "kept marks in bits 0 to 2 of byte 24"
+fn options(r: &[u8]) -> u8
+    requires { ⌜ length (now r) ≡ recordSize ⌝ }
+    ensures { λ res. ⌜ res ≡ bit (flagOf (get 1 (now (r .entry)) 34)) + 2 * bit (flagOf (get 1 (now (r .entry)) 35)) + 4 * bit (flagOf (get 1 (now (r .entry)) 36)) ⌝ }
+{
+    flag_bit(r, 34) + 2 * flag_bit(r, 35) + 4 * flag_bit(r, 36)
+}
+
+// Clears the head of a body at `at`, and writes N, V, the flag and the life maximum.
+fn put_sizes(image: &mut [u8], at: usize, r: &[u8])
+    requires { ⌜ (at + headSize ≤ length (now image)) × (length (now r) ≡ recordSize) ⌝ }
+    ensures { λ _. ⌜ now (image .exit) ≡ stores (placed at (sizesOf (now (r .entry)))) (sets (now (image .entry)) at (zeros headSize)) ⌝ }
+{
+    wire::zero_part(image, at, 32);
+    wire::put_u64(image, at, wire::u64_at(r, 0));
+    wire::put_u64(image, at + 8, wire::u64_at(r, 8));
+    wire::put_u8(image, at + 16, flag_bit(r, 17));
+    wire::put_u8(image, at + 17, wire::u8_at(r, 42));
+}
+
+// Writes the features of a body at `at`.
+fn put_features(image: &mut [u8], at: usize, r: &[u8])
+    requires { ⌜ (at + headSize ≤ length (now image)) × (length (now r) ≡ recordSize) ⌝ }
+    ensures { λ _. ⌜ now (image .exit) ≡ stores (placed at (featuresOf (now (r .entry)))) (now (image .entry)) ⌝ }
+{
+    wire::put_u16(image, at + 18, wire::u16_at(r, 30));
+    wire::put_u16(image, at + 20, wire::u16_at(r, 32));
+    wire::put_u16(image, at + 22, wire::u16_at(r, 516));
+    wire::put_u8(image, at + 24, options(r));
+}
+
+// "A save adds one entry behind the used length; other bytes stay."
+pub fn put_entry(image: &mut [u8], used: usize, r: &[u8])
+    requires { ⌜ sound (now r) ≡ true ⌝ }
+    requires room { ⌜ (used + entrySize ≤ length (now image)) × (used / entrySize < entryLimit) ⌝ }
+    ensures { λ _. ⌜ now (image .exit) ≡ savedImage (decode (now (r .entry)) .device) (now (image .entry)) used ⌝ }
+{
+    put_sizes(image, used, r);
+    put_features(image, used, r);
+    wire::copy_part(image, used + 32, r, 512, 512);
+    put_trailer(image, used + 544, (used / 560) as u32 + 1);
+}
