@@ -11,7 +11,7 @@ use borrow.Author.Tests.{ltb-true}
 use Rattle.wire.specs.Choice.{firstFailed, ifPassed}
 use Rattle.wire.specs.Bytes.{Bytes}
 use Rattle.wire.specs.Parts.{part}
-use Rattle.wire.proofs.ChoiceLaws.{all-pass}
+use Rattle.wire.proofs.ChoiceLaws.{passed-not, all-pass}
 use Rattle.wire.proofs.PartsLaws.{length-part}
 use Rattle.model.specs.Sizes.{sectorSize}
 use Rattle.model.specs.Device.{Device}
@@ -33,7 +33,6 @@ use Rattle.control.specs.Change.{Changed}
 use Rattle.perform.specs.Served.{Served, ServedBeside}
 use Rattle.perform.proofs.AnswerLaws.{served-as}
 use Rattle.perform.proofs.KeyLaws.{slot-data}
-use Rattle.perform.proofs.TransferLaws.{passed-not}
 
 -- ---- the two effects
 

@@ -10,7 +10,7 @@ use lib.Dec.{eqb}
 use Rattle.wire.specs.Choice.{bit, firstFailed, ifPassed}
 use Rattle.wire.specs.Bytes.{Bytes}
 use Rattle.wire.specs.Parts.{part}
-use Rattle.wire.proofs.ChoiceLaws.{all-pass}
+use Rattle.wire.proofs.ChoiceLaws.{passed-not, all-pass}
 use Rattle.model.specs.Device.{Fill, idle, running, Transfer, none, table, fillData, Device}
 use Rattle.model.specs.Update.{withCode}
 use Rattle.model.specs.Registers.{Direction, read, write, Registers, dataOf, good, refusedWith, replyBytes}
@@ -30,10 +30,6 @@ use Rattle.control.specs.Change.{Changed}
 use Rattle.perform.specs.Served.{ServedBeside, begunBy}
 use Rattle.perform.proofs.AnswerLaws.{served-as}
 use Rattle.perform.proofs.KeyLaws.{fill-served}
-
-pub passed-not : {A : Type 0} (n : ℕ) (x y : A) → (n ≡ 0 → ⊥) → ifPassed n x y ≡ y
-passed-not zero x y ne = absurd (ne refl)
-passed-not (suc n) x y ne = refl
 
 -- what a slot has pending
 pub slot-pending : (slots : List code.Slot.Slot) (p : ℕ) (z : code.Slot.Slot) → p < length slots → asTransfer (getD slots p z .pending) ≡ getD (pendingOf slots) p none

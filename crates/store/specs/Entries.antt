@@ -58,6 +58,11 @@ isAnswered answered = true
 abbrev pub inStage : (Stage → Bool) → List ℕ → ℕ → Check
 inStage stage r p = (stage (stageFor p (decode r)), badStage)
 
+-- take and give, with the stage that they need
+abbrev pub mailboxChecks : (Stage → Bool) → List ℕ → ℕ → List ℕ → List ℕ → List Check
+mailboxChecks stage r p m a =
+    soundRecord r ∷ ofSize mailboxSize m ∷ ofSize privateSize a ∷ goodPort p ∷ inStage stage r p ∷ []
+
 -- the record with another stage of slot p, and with another device
 abbrev pub withStage : ℕ → Stage → Contents → Contents
 withStage p s c = record { device = c .device; stages = set (c .stages) p s }
@@ -73,8 +78,7 @@ pub record TakeAfter : Type 0 where
   pub privateArea : List ℕ
 
 abbrev pub takeChecks : List ℕ → ℕ → List ℕ → List ℕ → List Check
-takeChecks r p m a =
-    soundRecord r ∷ ofSize mailboxSize m ∷ ofSize privateSize a ∷ goodPort p ∷ inStage isEmpty r p ∷ []
+takeChecks r p m a = mailboxChecks isEmpty r p m a
 
 -- "copies the mailbox into the port's slot. Slot goes from empty to held."
 abbrev pub takeDone : List ℕ → ℕ → List ℕ → List ℕ → TakeAfter
@@ -134,8 +138,7 @@ pub record GiveAfter : Type 0 where
   pub mailbox : List ℕ
 
 abbrev pub giveChecks : List ℕ → ℕ → List ℕ → List ℕ → List Check
-giveChecks r p m a =
-    soundRecord r ∷ ofSize mailboxSize m ∷ ofSize privateSize a ∷ goodPort p ∷ inStage isAnswered r p ∷ []
+giveChecks r p m a = mailboxChecks isAnswered r p m a
 
 -- "writes all 528 reply bytes to the mailbox. Answered to empty; the slot's bytes stay."
 abbrev pub giveDone : List ℕ → ℕ → List ℕ → GiveAfter
@@ -194,8 +197,11 @@ unfoldable pub unlockBytes : List ℕ → OwnerAfter
 unlockBytes r = ownerBytes (soundRecord r ∷ []) (setLock false) r
 
 -- "V asked is 0 or above N"
+abbrev pub visibleChecks : List ℕ → ℕ → List Check
+visibleChecks r v = soundRecord r ∷ (between 1 v (decode r .device .native), badValue) ∷ []
+
 unfoldable pub setVisibleBytes : List ℕ → ℕ → OwnerAfter
-setVisibleBytes r v = ownerBytes (soundRecord r ∷ (between 1 v (decode r .device .native), badValue) ∷ []) (setVisible v) r
+setVisibleBytes r v = ownerBytes (visibleChecks r v) (setVisible v) r
 
 unfoldable pub sampleBytes : List ℕ → ℕ → OwnerAfter
 sampleBytes r reading = ownerBytes (soundRecord r ∷ []) (sample reading) r

@@ -52,6 +52,18 @@ abbrev pub Numbered : ℕ → List Check → Type 0
 Numbered bound [] = Unit {0}
 Numbered bound (c ∷ cs) = (0 < c .1) × (c .1 ≤ bound) × Numbered bound cs
 
+-- what is chosen by a number: b where a check failed ..
+pub passed-not : {A : Type 0} (n : ℕ) (a b : A) → (n ≡ 0 → ⊥) → ifPassed n a b ≡ b
+passed-not zero a b some = absurd (some refl)
+passed-not (suc n) a b some = refl
+
+-- .. the refusal with that number, and a where none failed
+pub chosen-refusal : {A : Type 0} (n m : ℕ) (a : A) (refusal : ℕ → A) → n ≡ m → (n ≡ 0 → ⊥) → ifPassed m a (refusal m) ≡ refusal n
+chosen-refusal n m a refusal e some = ap (λ (k : ℕ). ifPassed k a (refusal k)) (sym e) ∙ passed-not n a (refusal n) some
+
+pub chosen-done : {A : Type 0} (n m : ℕ) (a b : A) → n ≡ m → n ≡ 0 → ifPassed m a b ≡ a
+chosen-done n m a b e z = ap (λ (k : ℕ). ifPassed k a b) (sym e ∙ z)
+
 -- where the number is 0, every test holds
 pub all-pass : (bound : ℕ) (cs : List Check) → Numbered bound cs → firstFailed cs ≡ 0 → AllPass cs
 all-pass bound [] n e = tt

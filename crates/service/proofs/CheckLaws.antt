@@ -1,0 +1,109 @@
+-- What the checks of a step say of the record when they pass.
+use mathlib.Core.Path.{_≡_, refl, sym, ap, _∙_}
+use mathlib.Core.Bool.{Bool, true}
+use mathlib.Core.List.{List, [], _∷_}
+use Prim.Native.Nat.{ℕ, zero, suc, _*_, _+_, _/_, _≤_, _<_}
+use native.Mathlib.Omega.{arith}
+use lib.ListN.{length, getD}
+use lib.Dec.{leb, ltb}
+use borrow.Author.Tests.{eqb-true, leb-true, ltb-true}
+use Rattle.wire.specs.Choice.{firstFailed}
+use Rattle.wire.specs.Bytes.{Bytes}
+use Rattle.wire.proofs.ChoiceLaws.{and-left, and-right, all-pass, pass-all}
+use Rattle.model.specs.Sizes.{sectorSize, nativeLimit, portCount, mailboxSize, entrySize, entryLimit}
+use Rattle.model.specs.Image.{entries, imageChecks}
+use Rattle.store.specs.Areas.{recordSize, privateSize}
+use Rattle.store.specs.Record.{Stage, empty, Contents, decode}
+use Rattle.store.specs.Sound.{sound}
+use Rattle.store.specs.Entries.{mailboxChecks, serveChecks, workChecks, visibleChecks, saveChecks, powerOnChecks}
+use Rattle.store.proofs.SoundLaws.{sound-valid}
+use Rattle.record.specs.declared.device as code
+use Rattle.record.specs.Meaning.{asStage, asContents, stagesOf, historyOf}
+
+-- the stage of a slot
+pub slot-stage : (slots : List code.Slot.Slot) (p : ℕ) (z : code.Slot.Slot) → p < length slots → asStage (getD slots p z .stage) ≡ getD (stagesOf slots) p empty
+slot-stage [] p z h = absurd (omega arith)
+slot-stage (s ∷ slots) zero z h = refl
+slot-stage (s ∷ slots) (suc p) z h = slot-stage slots p z (omega arith)
+
+-- "N ≤ 65,536"
+pub native-limit : (r : List ℕ) (d : code.Device.Device) → Bytes r → sound r ≡ true → asContents d (historyOf r) ≡ decode r → d .native ≤ nativeLimit
+native-limit r d b s says =
+    let v = sound-valid r b s .device .sizes in
+    let same = ap (λ (c : Contents). c .device .native) says in
+    omega (arith, v, same)
+
+-- ---- what passed
+
+pub record MailboxPassed (r : List ℕ) (p : ℕ) (m a : List ℕ) : Type 0 where
+  pub isSound : sound r ≡ true
+  pub mailboxSized : length m ≡ mailboxSize
+  pub areaSized : length a ≡ privateSize
+  pub port : p < portCount
+
+pub mailbox-passed : (stage : Stage → Bool) (r : List ℕ) (p : ℕ) (m a : List ℕ) {n : ℕ} → n ≡ firstFailed (mailboxChecks stage r p m a) → n ≡ 0 → MailboxPassed r p m a
+mailbox-passed stage r p m a e z =
+    let all = all-pass 4 (mailboxChecks stage r p m a) (omega arith) (sym e ∙ z) in
+    record {
+      isSound = all .0;
+      mailboxSized = eqb-true (length m) mailboxSize (all .1 .0);
+      areaSized = eqb-true (length a) privateSize (all .1 .1 .0);
+      port = ltb-true p portCount (all .1 .1 .1 .0);
+    }
+
+pub record DiskPassed (r a disk : List ℕ) : Type 0 where
+  pub isSound : sound r ≡ true
+  pub areaSized : length a ≡ privateSize
+  pub diskSized : length disk ≡ sectorSize * decode r .device .native
+
+pub work-passed : (r a disk : List ℕ) {n : ℕ} → n ≡ firstFailed (workChecks r a disk) → n ≡ 0 → DiskPassed r a disk
+work-passed r a disk e z =
+    let all = all-pass 4 (workChecks r a disk) (omega arith) (sym e ∙ z) in
+    record {
+      isSound = all .0;
+      areaSized = eqb-true (length a) privateSize (all .1 .0);
+      diskSized = eqb-true (length disk) (sectorSize * decode r .device .native) (all .1 .1 .0);
+    }
+
+pub serve-passed : (r : List ℕ) (p : ℕ) (a disk : List ℕ) {n : ℕ} → n ≡ firstFailed (serveChecks r p a disk) → n ≡ 0 → DiskPassed r a disk × (p < portCount)
+serve-passed r p a disk e z =
+    let all = all-pass 4 (serveChecks r p a disk) (omega arith) (sym e ∙ z) in (
+      record {
+        isSound = all .0;
+        areaSized = eqb-true (length a) privateSize (all .1 .0);
+        diskSized = eqb-true (length disk) (sectorSize * decode r .device .native) (all .1 .1 .0);
+      },
+      ltb-true p portCount (all .1 .1 .1 .0),
+    )
+
+pub visible-passed : (r : List ℕ) (v : ℕ) {n : ℕ} → n ≡ firstFailed (visibleChecks r v) → n ≡ 0 → sound r ≡ true
+visible-passed r v e z = all-pass 5 (visibleChecks r v) (omega arith) (sym e ∙ z) .0
+
+pub record SavePassed (r image : List ℕ) (used : ℕ) : Type 0 where
+  pub isSound : sound r ≡ true
+  pub room : used + entrySize ≤ length image
+  pub number : used / entrySize < entryLimit
+
+pub save-passed : (r image : List ℕ) (used : ℕ) {n : ℕ} → n ≡ firstFailed (saveChecks r image used) → n ≡ 0 → SavePassed r image used
+save-passed r image used e z =
+    let all = all-pass 8 (saveChecks r image used) (omega arith) (sym e ∙ z) in
+    let room = all .1 .1 .1 .1 .0 in
+    record {
+      isSound = all .0;
+      room = leb-true (used + entrySize) (length image) (and-right (ltb (entries used) entryLimit) (leb (used + entrySize) (length image)) room);
+      number = ltb-true (entries used) entryLimit (and-left (ltb (entries used) entryLimit) (leb (used + entrySize) (length image)) room);
+    }
+
+pub record PowerOnPassed (r a disk image : List ℕ) (used : ℕ) : Type 0 where
+  pub recordSized : length r ≡ recordSize
+  pub areaSized : length a ≡ privateSize
+  pub readable : firstFailed (imageChecks (length disk / sectorSize) image used) ≡ 0
+
+pub power-on-passed : (r a disk image : List ℕ) (used : ℕ) {n : ℕ} → n ≡ firstFailed (powerOnChecks r a disk image used) → n ≡ 0 → PowerOnPassed r a disk image used
+power-on-passed r a disk image used e z =
+    let all = all-pass 7 (powerOnChecks r a disk image used) (omega arith) (sym e ∙ z) in
+    record {
+      recordSized = eqb-true (length r) recordSize (all .0);
+      areaSized = eqb-true (length a) privateSize (all .1 .0);
+      readable = pass-all (imageChecks (length disk / sectorSize) image used) (all .1 .1 .1);
+    }

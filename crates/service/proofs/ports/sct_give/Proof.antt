@@ -1,0 +1,77 @@
+-- `service::ports::sct_give` meets its contract.
+use mathlib.Core.Path.{refl}
+use Prim.Native.Nat.{_*_}
+use native.Mathlib.Omega.{arith}
+use Rattle.wire.proofs.PartsLaws.{length-part}
+use Rattle.store.specs.Entries.{isAnswered}
+use Rattle.service.proofs.CheckLaws.{mailbox-passed}
+use Rattle.service.proofs.StepLaws.{give-refused, give-done, sets-whole}
+use borrow.Author.Needs.{needs}
+use Rattle.service.proofs.ports.sct_give.Statement.{statement}
+use Rattle.service.proofs.ports.sct_give.Tie as tie
+
+mailbox-refusal-requires : tie.Need-mailbox-refusal-requires
+mailbox-refusal-requires c κs = search needs
+
+same-length : tie.Need-same-length
+same-length c = search needs
+
+returns : tie.Need-returns
+returns c =
+    let at-mailbox-refusal = c .before in
+    let entry = at-mailbox-refusal .before .before .before .before .before in
+    let a = entry .args in
+    rw (give-refused (a .device .now) (a .port) (a .mailbox .now) (a .area .now) (at-mailbox-refusal .mailbox-refusal .result) (at-mailbox-refusal .mailbox-refusal .ensures (a .mailbox .now) (a .area .now) refl refl) (c .if1 .taken)) (refl, (refl, refl))
+
+mul-copy-part : tie.Need-mul-copy-part
+mul-copy-part c = search needs
+
+copy-part-requires : tie.Need-copy-part-requires
+copy-part-requires c κs =
+    let at-if1 = c .before in
+    let at-mailbox-refusal = at-if1 .before in
+    let entry = at-mailbox-refusal .before .before .before .before .before in
+    let a = entry .args in
+    let ok = mailbox-passed isAnswered (a .device .now) (a .port) (a .mailbox .now) (a .area .now) (at-mailbox-refusal .mailbox-refusal .ensures (a .mailbox .now) (a .area .now) refl refl) (at-if1 .if1 .left) in
+    omega (arith, ok)
+
+put-stage-requires : tie.Need-put-stage-requires
+put-stage-requires c κs =
+    let at-if1 = c .before .before .before .before .before in
+    let at-mailbox-refusal = at-if1 .before in
+    let entry = at-mailbox-refusal .before .before .before .before .before in
+    let a = entry .args in
+    let ok = mailbox-passed isAnswered (a .device .now) (a .port) (a .mailbox .now) (a .area .now) (at-mailbox-refusal .mailbox-refusal .ensures (a .mailbox .now) (a .area .now) refl refl) (at-if1 .if1 .left) in
+    (ok .isSound, ok .port)
+
+same-length-2 : tie.Need-same-length-2
+same-length-2 c = search needs
+
+same-length-3 : tie.Need-same-length-3
+same-length-3 c = search needs
+
+returns-2 : tie.Need-returns-2
+returns-2 c =
+    let at-put-stage = c .before .before in
+    let at-copy-part = at-put-stage .before .before .before .before in
+    let at-if1 = at-copy-part .before .before in
+    let at-mailbox-refusal = at-if1 .before in
+    let entry = at-mailbox-refusal .before .before .before .before .before in
+    let a = entry .args in
+    let ok = mailbox-passed isAnswered (a .device .now) (a .port) (a .mailbox .now) (a .area .now) (at-mailbox-refusal .mailbox-refusal .ensures (a .mailbox .now) (a .area .now) refl refl) (at-if1 .if1 .left) in
+    rw (give-done (a .device .now) (a .port) (a .mailbox .now) (a .area .now) (at-mailbox-refusal .mailbox-refusal .result) (at-mailbox-refusal .mailbox-refusal .ensures (a .mailbox .now) (a .area .now) refl refl) (at-if1 .if1 .left))
+    (refl, (at-put-stage .put-stage .ensures, rw (at-copy-part .copy-part .ensures) (sets-whole _ (a .mailbox .now) 528 (length-part (a .area .now) (528 * a .port) 528 (omega (arith, ok))) (ok .mailboxSized))))
+
+pub sct-give-spec : {M : Type 1} → statement M
+sct-give-spec =
+    tie.close
+    (tie.spec
+    mailbox-refusal-requires
+    same-length
+    returns
+    mul-copy-part
+    copy-part-requires
+    put-stage-requires
+    same-length-2
+    same-length-3
+    returns-2)

@@ -1,0 +1,79 @@
+-- `service::ports::sct_take` meets its contract.
+use mathlib.Core.Path.{refl, ap}
+use mathlib.Core.List.{List}
+use Prim.Native.Nat.{ℕ}
+use native.Mathlib.Omega.{arith}
+use lib.Seq.{sets}
+use Rattle.store.specs.Areas.{slotPlace}
+use Rattle.store.specs.Entries.{isEmpty}
+use Rattle.service.proofs.CheckLaws.{mailbox-passed}
+use Rattle.service.proofs.StepLaws.{take-refused, take-done, part-whole}
+use borrow.Author.Needs.{needs}
+use Rattle.service.proofs.ports.sct_take.Statement.{statement}
+use Rattle.service.proofs.ports.sct_take.Tie as tie
+
+mailbox-refusal-requires : tie.Need-mailbox-refusal-requires
+mailbox-refusal-requires c κs = search needs
+
+same-length : tie.Need-same-length
+same-length c = search needs
+
+returns : tie.Need-returns
+returns c =
+    let at-mailbox-refusal = c .before in
+    let entry = at-mailbox-refusal .before .before .before .before .before in
+    let a = entry .args in
+    rw (take-refused (a .device .now) (a .port) (a .mailbox .now) (a .area .now) (at-mailbox-refusal .mailbox-refusal .result) (at-mailbox-refusal .mailbox-refusal .ensures (a .mailbox .now) (a .area .now) refl refl) (c .if1 .taken)) (refl, (refl, refl))
+
+mul-copy-part : tie.Need-mul-copy-part
+mul-copy-part c = search needs
+
+copy-part-requires : tie.Need-copy-part-requires
+copy-part-requires c κs =
+    let at-if1 = c .before in
+    let at-mailbox-refusal = at-if1 .before in
+    let entry = at-mailbox-refusal .before .before .before .before .before in
+    let a = entry .args in
+    let ok = mailbox-passed isEmpty (a .device .now) (a .port) (a .mailbox .now) (a .area .now) (at-mailbox-refusal .mailbox-refusal .ensures (a .mailbox .now) (a .area .now) refl refl) (at-if1 .if1 .left) in
+    omega (arith, ok)
+
+put-stage-requires : tie.Need-put-stage-requires
+put-stage-requires c κs =
+    let at-if1 = c .before .before .before .before .before in
+    let at-mailbox-refusal = at-if1 .before in
+    let entry = at-mailbox-refusal .before .before .before .before .before in
+    let a = entry .args in
+    let ok = mailbox-passed isEmpty (a .device .now) (a .port) (a .mailbox .now) (a .area .now) (at-mailbox-refusal .mailbox-refusal .ensures (a .mailbox .now) (a .area .now) refl refl) (at-if1 .if1 .left) in
+    (ok .isSound, ok .port)
+
+same-length-2 : tie.Need-same-length-2
+same-length-2 c = search needs
+
+same-length-3 : tie.Need-same-length-3
+same-length-3 c = search needs
+
+returns-2 : tie.Need-returns-2
+returns-2 c =
+    let at-put-stage = c .before .before in
+    let at-copy-part = at-put-stage .before .before .before .before in
+    let at-if1 = at-copy-part .before .before in
+    let at-mailbox-refusal = at-if1 .before in
+    let entry = at-mailbox-refusal .before .before .before .before .before in
+    let a = entry .args in
+    let ok = mailbox-passed isEmpty (a .device .now) (a .port) (a .mailbox .now) (a .area .now) (at-mailbox-refusal .mailbox-refusal .ensures (a .mailbox .now) (a .area .now) refl refl) (at-if1 .if1 .left) in
+    rw (take-done (a .device .now) (a .port) (a .mailbox .now) (a .area .now) (at-mailbox-refusal .mailbox-refusal .result) (at-mailbox-refusal .mailbox-refusal .ensures (a .mailbox .now) (a .area .now) refl refl) (at-if1 .if1 .left))
+    (refl, (at-put-stage .put-stage .ensures, rw (at-copy-part .copy-part .ensures) (ap (λ (l : List ℕ). sets (a .area .now) (slotPlace (a .port)) l) (part-whole (a .mailbox .now) 528 (ok .mailboxSized)))))
+
+pub sct-take-spec : {M : Type 1} → statement M
+sct-take-spec =
+    tie.close
+    (tie.spec
+    mailbox-refusal-requires
+    same-length
+    returns
+    mul-copy-part
+    copy-part-requires
+    put-stage-requires
+    same-length-2
+    same-length-3
+    returns-2)

@@ -1,0 +1,3 @@
+-- What the steps need and report beside the store's definitions.
+pub mod Needed
+pub mod Result

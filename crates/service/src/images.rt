@@ -1,0 +1,80 @@
+// Saved images: save and power-on.
+ghost use mathlib.Core.Path.{_≡_};
+ghost use mathlib.Core.List.{List};
+ghost use Prim.Native.Nat.{ℕ};
+ghost use lib.ListN.{length};
+ghost use Rattle.wire.specs.Choice.{firstFailed};
+ghost use Rattle.model.specs.Image.{wholeSectors};
+ghost use Rattle.store.specs.Entries.{saveChecks, saveBytes, powerOnChecks, powerOnBytes};
+
+// The checks of a save.
+fn save_refusal(device: &[u8], image: &[u8], used: usize) -> u32
+    ensures { λ n. ⌜ n ≡ firstFailed (saveChecks (now (device .entry)) (now (image .entry)) used) ⌝ }
+{
+    if !soundness::sound(device) {
+        return 4;
+    }
+    let d = record::decode(device);
+    image::save_refusal(d.native, image, used)
+}
+
+// "A save adds one entry behind the used length; other bytes stay."
+#[no_mangle]
+pub extern "C" fn sct_save(device: &[u8], image: &mut [u8], used: u64) -> u32
+    ensures { λ n. ⌜ n ≡ saveBytes (now (device .entry)) (now (image .entry)) used .answer ⌝ }
+    ensures image { λ _. ⌜ now (image .exit) ≡ saveBytes (now (device .entry)) (now (image .entry)) used .image ⌝ }
+{
+    let at = used as usize;
+    let refusal = save_refusal(device, image, at);
+    if refusal != 0 {
+        return refusal;
+    }
+    image::put_entry(image, at, device);
+    0
+}
+
+// "power-on: not 1 to 65,536 whole sectors"
+fn is_whole(disk: usize) -> bool
+    ensures { λ r. ⌜ r ≡ wholeSectors disk ⌝ }
+{
+    (disk % 512 == 0) & ((1 <= disk / 512) & (disk / 512 <= 65536))
+}
+
+// The checks of power-on. They see the sizes of record, private area and disk, not their bytes.
+fn power_on_refusal(device: usize, area: usize, disk: usize, image: &[u8], used: usize) -> u32
+    ensures { λ n. ⌜ ((r a sectors : List ℕ) → length r ≡ device → length a ≡ area → length sectors ≡ disk → n ≡ firstFailed (powerOnChecks r a sectors (now (image .entry)) used)) ⌝ }
+{
+    if device != 1024 {
+        return 2;
+    }
+    if area != 2624 {
+        return 2;
+    }
+    if !is_whole(disk) {
+        return 2;
+    }
+    image::read_refusal((disk / 512) as u64, image, used)
+}
+
+// "Power-on from length 0 ..; otherwise the newest entry"; "private area all zeros"
+#[no_mangle]
+pub extern "C" fn sct_power_on(
+    device: &mut [u8],
+    area: &mut [u8],
+    disk: &[u8],
+    image: &[u8],
+    used: u64,
+) -> u32
+    ensures { λ n. ⌜ n ≡ powerOnBytes (now (device .entry)) (now (area .entry)) (now (disk .entry)) (now (image .entry)) used .answer ⌝ }
+    ensures device { λ _. ⌜ now (device .exit) ≡ powerOnBytes (now (device .entry)) (now (area .entry)) (now (disk .entry)) (now (image .entry)) used .recordArea ⌝ }
+    ensures area { λ _. ⌜ now (area .exit) ≡ powerOnBytes (now (device .entry)) (now (area .entry)) (now (disk .entry)) (now (image .entry)) used .privateArea ⌝ }
+{
+    let at = used as usize;
+    let refusal = power_on_refusal(device.len(), area.len(), disk.len(), image, at);
+    if refusal != 0 {
+        return refusal;
+    }
+    wire::zero_part(area, 0, 2624);
+    image::put_restored(device, (disk.len() / 512) as u64, image, at);
+    0
+}
