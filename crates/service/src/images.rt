@@ -29,7 +29,7 @@ pub extern "C" fn sct_save(device: &[u8], image: &mut [u8], used: u64) -> u32
     if refusal != 0 {
         return refusal;
     }
-    image::put_entry(image, at, device);
+    save::put_entry(image, at, device);
     0
 }
 
@@ -75,6 +75,6 @@ pub extern "C" fn sct_power_on(
         return refusal;
     }
     wire::zero_part(area, 0, 2624);
-    image::put_restored(device, (disk.len() / 512) as u64, image, at);
+    restore::put_restored(device, (disk.len() / 512) as u64, image, at);
     0
 }
