@@ -8,12 +8,6 @@ use borrow.Author.Tests.{ne-eqb}
 use Rattle.wire.specs.Choice.{if_then_else_, between, firstFailed}
 use Rattle.model.specs.Device.{Device}
 use Rattle.model.specs.Key.{word, fillChecks, timerChecks, featureChecks, tableChecks, keyChecks, Action, sendTable, fillAction, timerAction, featureAction, actionOf, rejected, verdict, judgeKey}
-use Rattle.command.specs.Meaning.{judgeWith}
-
--- THE LAW of a read key: what is judged by the lock and the visible size is what the device judges.
-pub judge-with : (d : Device) (k : List ℕ) → judgeKey d k ≡ judgeWith (d .locked) (d .visible) k
-unfolding judgeKey keyChecks judgeWith
-judge-with d k = refl
 
 -- "0006h (read) or 0007h (write)"
 pub timer-refused : (name code : ℕ) (a : Action) → code ≡ (if eqb name 1 then 0x0006 else 0x0007)
@@ -24,29 +18,29 @@ timer-refused name code a e = rw e (go (eqb name 1))
     go true = refl
     go false = refl
 
-module _ (locked : Bool) (visible : ℕ) (k : List ℕ) where
-  pub with-lock : locked ≡ true → rejected 0x0012 ≡ judgeWith locked visible k
-  unfolding judgeWith
-  with-lock l = rw l
+module _ (locked : Bool) (visible : ℕ) (k : List ℕ) (d : Device) (lock : d .locked ≡ locked) (size : d .visible ≡ visible) where
+  pub with-lock : locked ≡ true → rejected 0x0012 ≡ judgeKey d k
+  unfolding judgeKey keyChecks
+  with-lock l = rw (lock, l)
 
   module _ (unlocked : locked ≡ false) where
-    pub with-action : between 2 (word k 0) 5 ≡ false → rejected 0x0010 ≡ judgeWith locked visible k
-    unfolding judgeWith
-    with-action b = rw (unlocked, b)
+    pub with-action : between 2 (word k 0) 5 ≡ false → rejected 0x0010 ≡ judgeKey d k
+    unfolding judgeKey keyChecks
+    with-action b = rw (lock, unlocked, b)
 
-    pub with-fill : word k 0 ≡ 2 → verdict (firstFailed (fillChecks visible k)) (fillAction visible k) ≡ judgeWith locked visible k
-    unfolding judgeWith actionOf
-    with-fill w = rw (unlocked, w)
+    pub with-fill : word k 0 ≡ 2 → verdict (firstFailed (fillChecks visible k)) (fillAction visible k) ≡ judgeKey d k
+    unfolding judgeKey keyChecks actionOf
+    with-fill w = rw (lock, unlocked, size, w)
 
-    pub with-timer : word k 0 ≡ 3 → verdict (firstFailed (timerChecks k)) (timerAction k) ≡ judgeWith locked visible k
-    unfolding judgeWith actionOf
-    with-timer w = rw (unlocked, w)
+    pub with-timer : word k 0 ≡ 3 → verdict (firstFailed (timerChecks k)) (timerAction k) ≡ judgeKey d k
+    unfolding judgeKey keyChecks actionOf
+    with-timer w = rw (lock, unlocked, size, w)
 
-    pub with-feature : word k 0 ≡ 4 → verdict (firstFailed (featureChecks k)) (featureAction k) ≡ judgeWith locked visible k
-    unfolding judgeWith actionOf
-    with-feature w = rw (unlocked, w)
+    pub with-feature : word k 0 ≡ 4 → verdict (firstFailed (featureChecks k)) (featureAction k) ≡ judgeKey d k
+    unfolding judgeKey keyChecks actionOf
+    with-feature w = rw (lock, unlocked, size, w)
 
     pub with-table : between 2 (word k 0) 5 ≡ true → (word k 0 ≡ 2 → ⊥) → (word k 0 ≡ 3 → ⊥) → (word k 0 ≡ 4 → ⊥)
-        → verdict (firstFailed (tableChecks k)) sendTable ≡ judgeWith locked visible k
-    unfolding judgeWith actionOf
-    with-table b two three four = rw (unlocked, b, ne-eqb (word k 0) 2 two, ne-eqb (word k 0) 3 three, ne-eqb (word k 0) 4 four)
+        → verdict (firstFailed (tableChecks k)) sendTable ≡ judgeKey d k
+    unfolding judgeKey keyChecks actionOf
+    with-table b two three four = rw (lock, unlocked, size, b, ne-eqb (word k 0) 2 two, ne-eqb (word k 0) 3 three, ne-eqb (word k 0) 4 four)

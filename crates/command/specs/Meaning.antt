@@ -1,10 +1,8 @@
 -- What the enums of the code say, in the model's words.
-use mathlib.Core.Bool.{Bool, not}
 use Prim.Native.Nat.{ℕ}
-use mathlib.Core.List.{List, _∷_}
-use Rattle.wire.specs.Choice.{between, Check, firstFailed}
+use mathlib.Core.List.{List}
 use Rattle.model.specs.Registers.{Direction, read, write, Request, statusRead, keySector, dataTransfer, sectorAccess, other}
-use Rattle.model.specs.Key.{word, actionChecks, FeatureName, writeCache, reordering, logInterval, Action, fillPattern, fillSector, setTimer, returnTimer, setFeature, returnState, returnOption, sendTable, actionOf, Verdict, accepted, rejected, verdict}
+use Rattle.model.specs.Key.{FeatureName, writeCache, reordering, logInterval, Action, fillPattern, fillSector, setTimer, returnTimer, setFeature, returnState, returnOption, sendTable, Verdict, accepted, rejected}
 use Rattle.command.specs.declared.request as request
 use Rattle.command.specs.declared.key as key
 use Rattle.command.specs.declared.request.Direction.the-variants.{Read, Write}
@@ -52,10 +50,3 @@ asVerdict (Refused code) sector = rejected code
 abbrev pub refusalOf : key.KeyRead.KeyRead → ℕ
 refusalOf (Accepted a) = 0
 refusalOf (Refused code) = code
-
--- A key judged by all of the device that a key's checks see: the lock and the visible size.
-abbrev pub checksWith : Bool → ℕ → List ℕ → List Check
-checksWith locked visible k = (not locked, 0x0012) ∷ (between 2 (word k 0) 5, 0x0010) ∷ actionChecks visible k
-
-unfoldable pub judgeWith : Bool → ℕ → List ℕ → Verdict
-judgeWith locked visible k = verdict (firstFailed (checksWith locked visible k)) (actionOf visible k)

@@ -32,12 +32,11 @@ use Rattle.record.specs.Meaning.{asSettings, asDevice, asContents, stagesOf, hi
 use Rattle.writing.specs.Framed.{Framed}
 use Rattle.writing.proofs.FramedLaws.{emptied-framed}
 use Rattle.writing.proofs.HistoryLaws.{history-emptied}
-use Rattle.command.specs.Meaning.{asAction, asVerdict, refusalOf, judgeWith}
+use Rattle.command.specs.Meaning.{asAction, asVerdict, refusalOf}
 use Rattle.reply.specs.Meaning.{asRegisters}
 use Rattle.command.specs.declared.key as key
 use Rattle.command.specs.declared.key.KeyRead.the-variants.{Accepted, Refused}
 use Rattle.reply.specs.declared.registers as reply
-use Rattle.command.proofs.KeyReadLaws.{judge-with}
 use Rattle.command.proofs.SlotLaws.{number-first, number-of}
 use Rattle.control.specs.Change.{Changed}
 use Rattle.perform.specs.Served.{Carried, Replied, historyAfter, empties, Served, ServedBeside, Entered, withoutEffect}
@@ -112,10 +111,6 @@ module _ (p : ℕ) (x : Device) (k : List ℕ) where
   unfolding decideKey
   verdict-refused n e = sym (ap (λ (v : Verdict). decideVerdict v p (withKey (word k 0) (word k 1) x)) e)
 
--- stopping a fill changes nothing that a key's checks see
-interrupt-judged : (x : Device) (k : List ℕ) → judgeKey (interrupt x) k ≡ judgeWith (x .locked) (x .visible) k
-interrupt-judged x k = judge-with (interrupt x) k ∙ ap (λ (y : Device). judgeWith (y .locked) (y .visible) k) (interrupt-kept x)
-
 module _ (r a : List ℕ) (p : ℕ) (d e : code.Device.Device) (says : asContents d (historyOf r) ≡ decode r) where
   -- the key, as it is read and as the model names it
   abbrev bytes : List ℕ
@@ -130,13 +125,17 @@ module _ (r a : List ℕ) (p : ℕ) (d e : code.Device.Device) (says : asContent
   abbrev recordedBy : List ℕ → Device → Device
   recordedBy k x = withKey (word k 0) (word k 1) (interrupt x)
 
-  module _ (asked : key.KeyRead.KeyRead) (words : Changed (recordedBy bytes) d e) (read : asVerdict asked (patternSector bytes) ≡ judgeWith (d .locked) (d .visible) bytes) where
+  module _ (asked : key.KeyRead.KeyRead) (words : Changed (recordedBy bytes) d e) (read : (x : Device) → x .locked ≡ d .locked → x .visible ≡ d .visible → asVerdict asked (patternSector bytes) ≡ judgeKey x bytes) where
+    -- stopping a fill changes nothing that a key's checks see
     judged : judgeKey stopped sector ≡ asVerdict asked (patternSector sector)
     judged =
-        interrupt-judged (decode r .device) sector
-        ∙ ap (λ (c : Contents). judgeWith (c .device .locked) (c .device .visible) sector) (sym says)
-        ∙ sym (ap (λ (k : List ℕ). judgeWith (d .locked) (d .visible) k) (slot-data a p))
-        ∙ sym read
+        let same = interrupt-kept (decode r .device) in
+        sym (ap (judgeKey stopped) (slot-data a p))
+        ∙ sym
+        (read
+        stopped
+        (ap (λ (x : Device). x .locked) same ∙ ap (λ (c : Contents). c .device .locked) (sym says))
+        (ap (λ (x : Device). x .visible) same ∙ ap (λ (c : Contents). c .device .visible) (sym says)))
         ∙ ap (λ (k : List ℕ). asVerdict asked (patternSector k)) (slot-data a p)
 
     words-recorded : (n : ℕ) (f : code.Device.Device) → Changed (withCode n) e f → asDevice f (historyOf r) ≡ withCode n (recordedBy sector (decode r .device))

@@ -14,7 +14,8 @@ use Rattle.command.proofs.key.read_key.Tie as tie
 returns : tie.Need-returns
 returns c =
     let a = c .before .before .args in
-    with-lock (a .locked) (a .visible) (part (a .area .now) (a .at) 512) (c .if1 .taken)
+    λ d lock size.
+    with-lock (a .locked) (a .visible) (part (a .area .now) (a .at) 512) d lock size (c .if1 .taken)
 
 u16-at-requires : tie.Need-u16-at-requires
 u16-at-requires c κs = search needs
@@ -25,7 +26,8 @@ between-requires c κs = search needs
 returns-2 : tie.Need-returns-2
 returns-2 c =
     let a = c .before .before .before .before .before .args in
-    with-action (a .locked) (a .visible) (part (a .area .now) (a .at) 512) (c .before .before .before .if1 .left)
+    λ d lock size.
+    with-action (a .locked) (a .visible) (part (a .area .now) (a .at) 512) d lock size (c .before .before .before .if1 .left)
     (rw (number-first 2 (a .area .now) (a .at) 512 (omega arith) (c .before .before .u16-at .ensures)) (failed (c .before .between .ensures) (c .if2 .taken)))
 
 add-u16-at : tie.Need-add-u16-at
@@ -53,10 +55,11 @@ returns-3 : tie.Need-returns-3
 returns-3 c =
     let a = c .before .before .before .before .before .before .before .before .before .before .args in
     let k = part (a .area .now) (a .at) 512 in
+    λ d lock size.
     c .fill-key .ensures k (number-of 2 (a .area .now) (a .at) 512 2 (omega arith) (c .before .before .before .before .u16-at2 .ensures))
     (number-of 8 (a .area .now) (a .at) 512 4 (omega arith) (c .before .before .u64-at .ensures))
     (number-of 8 (a .area .now) (a .at) 512 12 (omega arith) (c .before .u64-at2 .ensures))
-    ∙ with-fill (a .locked) (a .visible) k (c .before .before .before .before .before .before .before .before .if1 .left) (number-first 2 (a .area .now) (a .at) 512 (omega arith) (c .before .before .before .before .before .before .before .u16-at .ensures) ∙ c .before .before .before .if3 .taken)
+    ∙ with-fill (a .locked) (a .visible) k d lock size (c .before .before .before .before .before .before .before .before .if1 .left) (number-first 2 (a .area .now) (a .at) 512 (omega arith) (c .before .before .before .before .before .before .before .u16-at .ensures) ∙ c .before .before .before .if3 .taken)
 
 add-u16-at-2 : tie.Need-add-u16-at-2
 add-u16-at-2 c = search needs
@@ -77,8 +80,9 @@ returns-4 : tie.Need-returns-4
 returns-4 c =
     let a = c .before .before .before .before .before .before .before .before .before .before .before .args in
     let k = part (a .area .now) (a .at) 512 in
+    λ d lock size.
     c .timer-key .ensures k (number-of 2 (a .area .now) (a .at) 512 2 (omega arith) (c .before .before .before .before .before .u16-at2 .ensures)) (number-of 2 (a .area .now) (a .at) 512 4 (omega arith) (c .before .before .before .u16-at3 .ensures)) (number-of 2 (a .area .now) (a .at) 512 6 (omega arith) (c .before .before .u16-at4 .ensures))
-    ∙ with-timer (a .locked) (a .visible) k (c .before .before .before .before .before .before .before .before .before .if1 .left) (number-first 2 (a .area .now) (a .at) 512 (omega arith) (c .before .before .before .before .before .before .before .before .u16-at .ensures) ∙ c .before .if4 .taken)
+    ∙ with-timer (a .locked) (a .visible) k d lock size (c .before .before .before .before .before .before .before .before .before .if1 .left) (number-first 2 (a .area .now) (a .at) 512 (omega arith) (c .before .before .before .before .before .before .before .before .u16-at .ensures) ∙ c .before .if4 .taken)
 
 add-u16-at-4 : tie.Need-add-u16-at-4
 add-u16-at-4 c = search needs
@@ -93,9 +97,10 @@ returns-5 : tie.Need-returns-5
 returns-5 c =
     let a = c .before .before .before .before .before .before .before .before .before .before .before .before .before .args in
     let k = part (a .area .now) (a .at) 512 in
+    λ d lock size.
     c .feature-key .ensures k (number-of 2 (a .area .now) (a .at) 512 2 (omega arith) (c .before .before .before .before .before .before .before .u16-at2 .ensures)) (number-of 2 (a .area .now) (a .at) 512 4 (omega arith) (c .before .before .before .before .before .u16-at3 .ensures)) (number-of 2 (a .area .now) (a .at) 512 6 (omega arith) (c .before .before .before .before .u16-at4 .ensures))
     (number-of 2 (a .area .now) (a .at) 512 8 (omega arith) (c .before .u16-at5 .ensures))
-    ∙ with-feature (a .locked) (a .visible) k (c .before .before .before .before .before .before .before .before .before .before .before .if1 .left) (number-first 2 (a .area .now) (a .at) 512 (omega arith) (c .before .before .before .before .before .before .before .before .before .before .u16-at .ensures) ∙ c .before .before .if5 .taken)
+    ∙ with-feature (a .locked) (a .visible) k d lock size (c .before .before .before .before .before .before .before .before .before .before .before .if1 .left) (number-first 2 (a .area .now) (a .at) 512 (omega arith) (c .before .before .before .before .before .before .before .before .before .before .u16-at .ensures) ∙ c .before .before .if5 .taken)
 
 table-key-requires : tie.Need-table-key-requires
 table-key-requires c κs = search needs
@@ -105,8 +110,9 @@ returns-6 c =
     let a = c .before .before .before .before .before .before .before .before .before .before .before .before .args in
     let k = part (a .area .now) (a .at) 512 in
     let w = number-first 2 (a .area .now) (a .at) 512 (omega arith) (c .before .before .before .before .before .before .before .before .before .u16-at .ensures) in
+    λ d lock size.
     c .table-key .ensures k (number-of 2 (a .area .now) (a .at) 512 2 (omega arith) (c .before .before .before .before .before .before .u16-at2 .ensures)) (number-of 2 (a .area .now) (a .at) 512 4 (omega arith) (c .before .before .before .before .u16-at3 .ensures))
-    ∙ with-table (a .locked) (a .visible) k (c .before .before .before .before .before .before .before .before .before .before .if1 .left) (rw w (passed (c .before .before .before .before .before .before .before .before .between .ensures) (c .before .before .before .before .before .before .before .if2 .left)))
+    ∙ with-table (a .locked) (a .visible) k d lock size (c .before .before .before .before .before .before .before .before .before .before .if1 .left) (rw w (passed (c .before .before .before .before .before .before .before .before .between .ensures) (c .before .before .before .before .before .before .before .if2 .left)))
     (λ e. c .before .before .before .before .before .if3 .left (sym w ∙ e))
     (λ e. c .before .before .if4 .left (sym w ∙ e))
     (λ e. c .before .if5 .left (sym w ∙ e))
