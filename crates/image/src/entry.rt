@@ -78,7 +78,7 @@ fn trailer_holds(image: &[u8], at: usize, number: u32) -> bool
     (size == 544) & (before == previous_place(number)) & (named == number) & letters
 }
 
-// Whether entry `number` holds, with the disk's N; its trailer stands at `at`.
+// Whether entry `number` holds, with the N of the newest entry ("all entries have the same N"); its trailer stands at `at`.
 pub fn entry_holds(native: u64, image: &[u8], at: usize, number: u32) -> bool
     requires { ⌜ (1 ≤ number) × (number ≤ entryLimit) × (at ≡ trailerPlace number) ⌝ }
     requires long { ⌜ entrySize * number ≤ length (now image) ⌝ }
