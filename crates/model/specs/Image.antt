@@ -209,16 +209,19 @@ blank native =
 abbrev pub kept : Feature → Feature
 kept f = record { state = if f .persistent then f .state else 1; persistent = f .persistent }
 
--- "Timers return to 0 at power-on."
-abbrev pub powerOnSettings : Saved → Settings
-powerOnSettings s =
+-- The settings of the three features at power-on: "Timers return to 0 at power-on."
+abbrev pub settingsOf : Feature → Feature → Feature → Settings
+settingsOf cache reordering interval =
     record {
       readTimer = powerOnTimer;
       writeTimer = powerOnTimer;
-      writeCache = kept (s .writeCache);
-      reordering = kept (s .reordering);
-      logInterval = kept (s .logInterval);
+      writeCache = kept cache;
+      reordering = kept reordering;
+      logInterval = kept interval;
     }
+
+abbrev pub powerOnSettings : Saved → Settings
+powerOnSettings s = settingsOf (s .writeCache) (s .reordering) (s .logInterval)
 
 -- ".. with "now" and this cycle's maximum missing. The history is kept if the interval after power-on equals the saved one; minutes are 0."
 abbrev pub powerOnThermal : Saved → Thermal

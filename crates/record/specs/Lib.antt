@@ -1,3 +1,2 @@
--- What the structs say, and the settings at power-on, in reading order.
+-- What the structs say.
 pub mod Meaning
-pub mod PowerOn

@@ -1,8 +1,8 @@
 // The device as a struct by value. The history stays in the record's bytes: the struct is small.
 ghost use mathlib.Core.Path.{_≡_};
-ghost use Rattle.model.specs.Image.{kept};
+ghost use Prim.Native.Nat.{ℕ};
+ghost use Rattle.model.specs.Image.{kept, blank, settingsOf, powerOnSettings};
 ghost use Rattle.record.specs.Meaning.{asFeature, asSettings};
-ghost use Rattle.record.specs.PowerOn.{settingsOf};
 
 pub enum Stage {
     Empty,
@@ -101,5 +101,16 @@ impl Settings {
             reordering: Self::kept(reordering),
             interval: Self::kept(interval),
         }
+    }
+
+    // The defaults: the settings at power-on from an empty image.
+    pub fn defaults() -> Settings
+        ensures { λ r. ⌜ ((native : ℕ) → asSettings r ≡ powerOnSettings (blank native)) ⌝ }
+    {
+        let f = Feature {
+            state: Self::STATE_NOT_KEPT,
+            persistent: false,
+        };
+        Self::power_on(f, f, f)
     }
 }

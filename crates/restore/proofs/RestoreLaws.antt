@@ -20,13 +20,13 @@ use Rattle.model.specs.Fill.{nothingPending}
 use Rattle.model.specs.Image.{Saved, savedIn, trailerPlace, entries, imageChecks, blank, powerOnSettings, powerOnThermal, powerOn, restored}
 use Rattle.model.proofs.ImageLaws.{readable-parts}
 use Rattle.store.specs.Record.{Stage, empty, encode}
+use Rattle.store.specs.Entries.{restoredContents}
 use Rattle.record.specs.Meaning.{historyOf}
 use Rattle.writing.specs.Framed.{Framed}
 use Rattle.writing.proofs.FramedLaws.{history-stored}
 use Rattle.image.specs.InPlace.{savedAt}
 use Rattle.image.proofs.EntryInPlace.{saved-at}
 use Rattle.image.proofs.RefusalLaws.{read-readable, read-entry}
-use Rattle.restore.specs.Restored.{restoredContents}
 
 -- a device with these values, and all else as power-on leaves it
 abbrev pub poweredDevice : ℕ → ℕ → Bool → ℕ → Settings → ℕ → List ℕ → Device

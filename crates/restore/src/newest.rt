@@ -18,10 +18,10 @@ ghost use Rattle.model.specs.Temperature.{emptyHistory, emptyIndex};
 ghost use Rattle.model.specs.Image.{Saved, hasBit, imageChecks, blank, powerOnSettings, powerOnThermal, powerOn, restored};
 ghost use Rattle.store.specs.Areas.{recordSize};
 ghost use Rattle.store.specs.Record.{empty, encode};
+ghost use Rattle.store.specs.Entries.{restoredContents};
 ghost use Rattle.record.specs.Meaning.{asSettings, asDevice, stagesOf, historyOf};
 ghost use Rattle.writing.specs.Framed.{Framed};
 ghost use Rattle.image.specs.InPlace.{savedAt};
-ghost use Rattle.restore.specs.Restored.{restoredContents};
 
 // Whether the bit of a weight (1, 2, 4 ..) is 1 in a byte.
 fn has_bit(weight: u8, byte: u8) -> bool
@@ -109,18 +109,7 @@ fn blank_device(native: u64) -> Device
     ensures { λ r. ⌜ asDevice r emptyHistory ≡ powerOn (blank native) ⌝ }
     ensures stages { λ r. ⌜ stagesOf (r .slots) ≡ replicate portCount empty ⌝ }
 {
-    let f = Feature {
-        state: 1,
-        persistent: false,
-    };
-    powered(
-        native,
-        native,
-        false,
-        0x80,
-        Settings::power_on(f, f, f),
-        477,
-    )
+    powered(native, native, false, 0x80, Settings::defaults(), 477)
 }
 
 // "The history is kept if the interval after power-on equals the saved one": its index.

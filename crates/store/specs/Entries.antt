@@ -15,7 +15,7 @@ use Rattle.model.specs.Fill.{Volume, workCount, work}
 use Rattle.model.specs.Decide.{Effect, nothing, sendStatus, sendTemperatures, readLba, writeLba, beginFill, Decision, decide}
 use Rattle.model.specs.Perform.{written, sent}
 use Rattle.model.specs.Owner.{setLock, setVisible, sample}
-use Rattle.model.specs.Image.{savedImage, restored, powerOn}
+use Rattle.model.specs.Image.{Saved, savedImage, restored, powerOn}
 use Rattle.model.specs.Image.{saveChecks as savingChecks, powerOnChecks as diskChecks}
 use Rattle.store.specs.Areas.{recordSize, slotPlace, fillPlace, privateSize}
 use Rattle.store.specs.Record.{Stage, empty, held, answered, Contents, encode, decode}
@@ -235,10 +235,12 @@ pub record PowerOnAfter : Type 0 where
   pub recordArea : List ℕ
   pub privateArea : List ℕ
 
--- "slots empty"
+-- the record's contents after a power-on from what was saved: "slots empty"
+abbrev pub restoredContents : Saved → Contents
+restoredContents s = record { device = powerOn s; stages = replicate portCount empty }
+
 abbrev pub poweredContents : List ℕ → List ℕ → ℕ → Contents
-poweredContents disk image used =
-    record { device = powerOn (restored (length disk / sectorSize) image used); stages = replicate portCount empty }
+poweredContents disk image used = restoredContents (restored (length disk / sectorSize) image used)
 
 -- "private area all zeros"
 abbrev pub powerOnDone : List ℕ → List ℕ → ℕ → PowerOnAfter

@@ -3,8 +3,8 @@ use mathlib.Core.Path.{ap, _∙_}
 use native.Mathlib.Omega.{arith}
 use Rattle.model.specs.Image.{Saved}
 use Rattle.store.specs.Record.{encode}
+use Rattle.store.specs.Entries.{restoredContents}
 use Rattle.image.proofs.RefusalLaws.{read-entry}
-use Rattle.restore.specs.Restored.{restoredContents}
 use Rattle.restore.proofs.RestoreLaws.{restored-blank, restored-newest}
 use borrow.Author.Needs.{needs}
 use Rattle.restore.proofs.newest.put_restored.Statement.{statement}

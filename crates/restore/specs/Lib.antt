@@ -1,2 +1,0 @@
--- The record's contents after a power-on.
-pub mod Restored
