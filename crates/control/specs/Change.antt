@@ -12,6 +12,7 @@ use Rattle.wire.specs.Choice.{if_then_else_}
 use Rattle.model.specs.Registers.{Direction, read, write}
 use Rattle.model.specs.Key.{FeatureName, writeCache, reordering, logInterval}
 use Rattle.model.specs.Update.{withSettings}
+use Rattle.model.specs.Fill.{interruptedCode}
 use Rattle.model.specs.Decide.{withFeature, afterFeature}
 use Rattle.model.specs.Temperature.{emptyHistory, tableHeadSize, nextIndex, sampled}
 use Rattle.model.specs.Owner.{sample}
@@ -33,7 +34,7 @@ pub record Staged (p : ℕ) (stage : Stage) (d r : code.Device.Device) : Type 0 
 -- the code after a fill was stopped: 0008h where one ran
 abbrev pub stoppedCode : Fill → ℕ → ℕ
 stoppedCode idle code = code
-stoppedCode (running first next end) code = 0x0008
+stoppedCode (running first next end) code = interruptedCode
 
 abbrev pub isRead : Direction → Bool
 isRead read = true

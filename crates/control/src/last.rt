@@ -30,7 +30,7 @@ fn stopped_code(f: Fill, code: u16) -> u16
 {
     match f {
         Fill::Idle => code,
-        Fill::Running(_, _, _) => 8,
+        Fill::Running(_, _, _) => 0x0008,
     }
 }
 
@@ -93,7 +93,7 @@ pub fn start_fill(d: Device, first: u64, end: u64) -> Device
 {
     let c = d.command;
     let started = Command {
-        code: 65535,
+        code: 0xFFFF,
         action: c.action,
         function: c.function,
         fill: Fill::Running(first, first, end),
@@ -103,8 +103,8 @@ pub fn start_fill(d: Device, first: u64, end: u64) -> Device
     e
 }
 
-// The device after a sector of its fill, with `next` the sector behind it: "at end the fill is over".
-pub fn advanced(d: Device, first: u64, next: u64, end: u64) -> Device
+// The device after a sector of its fill, with `next` the sector behind it: the flag "is cleared by any sector written"; "at end the fill is over".
+pub fn sector_written(d: Device, first: u64, next: u64, end: u64) -> Device
     ensures { λ r. ⌜ Changed (λ x. advanced first next end (withInitialized false x)) d r ⌝ }
 {
     let c = d.command;
@@ -121,7 +121,7 @@ pub fn advanced(d: Device, first: u64, next: u64, end: u64) -> Device
         return e;
     }
     let on = Command {
-        code: 65535,
+        code: 0xFFFF,
         action: c.action,
         function: c.function,
         fill: Fill::Running(first, next, end),
@@ -132,7 +132,7 @@ pub fn advanced(d: Device, first: u64, next: u64, end: u64) -> Device
 }
 
 // "The Segment Initialized flag is cleared by any sector written"
-pub fn cleared_flag(d: Device) -> Device
+pub fn with_flag_cleared(d: Device) -> Device
     ensures { λ r. ⌜ Changed (withInitialized false) d r ⌝ }
 {
     let mut written = d;

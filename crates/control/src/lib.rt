@@ -6,11 +6,11 @@ mod sampling;
 mod settings;
 mod thermal;
 
-pub use last::advanced;
-pub use last::cleared_flag;
 pub use last::interrupt;
+pub use last::sector_written;
 pub use last::start_fill;
 pub use last::with_code;
+pub use last::with_flag_cleared;
 pub use last::with_key;
 pub use last::with_pending;
 pub use owner::set_lock;

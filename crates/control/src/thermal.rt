@@ -11,17 +11,17 @@ ghost use Rattle.control.specs.Change.{shifted, Sampled};
 fn shifted(b: u8) -> u8
     ensures { λ r. ⌜ r ≡ shifted b ⌝ }
 {
-    if b < 128 { b + 128 } else { b - 128 }
+    if b < 0x80 { b + 0x80 } else { b - 0x80 }
 }
 
 // "A missing sample .. moves no maximum. A missing maximum takes the first real sample."
 pub fn new_maximum(sample: u8, old: u8) -> u8
     ensures { λ r. ⌜ r ≡ newMaximum sample old ⌝ }
 {
-    if sample == 128 {
+    if sample == 0x80 {
         return old;
     }
-    if old == 128 {
+    if old == 0x80 {
         return sample;
     }
     if shifted(sample) <= shifted(old) {

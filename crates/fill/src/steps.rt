@@ -80,7 +80,7 @@ fn moved_on(d: Device, k: u32) -> Device
     let Fill::Running(first, next, end) = fill else {
         return d;
     };
-    control::advanced(d, first, next + k as u64, end)
+    control::sector_written(d, first, next + k as u64, end)
 }
 
 // "writes the next sectors of a running fill, as many as n and what is left allow, and reports how many it wrote": n is a budget.

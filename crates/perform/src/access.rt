@@ -32,7 +32,7 @@ fn write_sector(r: &mut [u8], area: &mut [u8], disk: &mut [u8], p: usize, d: Dev
     ensures { λ _. ⌜ Served p (decision (asDevice d (historyOf (now (r .entry)))) (good 0 0) (writeLba lba (dataOf (slotBytes p (now (area .entry)))))) (stagesOf (d .slots)) (now (area .entry)) (now (disk .entry)) (now (r .exit)) (now (area .exit)) (now (disk .exit)) ⌝ }
 {
     wire::copy_part(disk, (512 * lba) as usize, area, 528 * p + 16, 512);
-    let e = control::cleared_flag(d);
+    let e = control::with_flag_cleared(d);
     answer(r, area, p, e, reply::good(0, 0));
 }
 

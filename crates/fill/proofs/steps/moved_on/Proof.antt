@@ -22,23 +22,23 @@ returns-2 c =
     let entry = at-if1 .before in
     moved-idle (entry .args .k) (entry .args .d) (at-if1 .if1 .left) (ap asFill (c .enum-told .given .1))
 
-add-advanced : tie.Need-add-advanced
-add-advanced c =
+add-sector-written : tie.Need-add-sector-written
+add-sector-written c =
     let at-fill = c .before in
     let entry = at-fill .before .before .before .before in
     let h = left-bounds _ (entry .args .k) _ _ _ (ap asFill (at-fill .fill .given .1)) (entry .pre) in omega (arith, h, c .known-told .given)
 
-advanced-requires : tie.Need-advanced-requires
-advanced-requires c κs = search needs
+sector-written-requires : tie.Need-sector-written-requires
+sector-written-requires c κs = search needs
 
 returns-3 : tie.Need-returns-3
 returns-3 c =
     let at-fill = c .before .before in
     let at-if1 = at-fill .before .before .before in
     let entry = at-if1 .before in
-    moved-running (entry .args .k) (entry .args .d) (at-if1 .if1 .left) _ _ _ _ (ap asFill (at-fill .fill .given .1)) (c .advanced .ensures)
+    moved-running (entry .args .k) (entry .args .d) (at-if1 .if1 .left) _ _ _ _ (ap asFill (at-fill .fill .given .1)) (c .sector-written .ensures)
 
 pub moved-on-spec : {M : Type 1} → statement M
 moved-on-spec =
     tie.close
-    (tie.spec returns enum-known-fill enum-told returns-2 add-advanced advanced-requires returns-3)
+    (tie.spec returns enum-known-fill enum-told returns-2 add-sector-written sector-written-requires returns-3)

@@ -17,8 +17,8 @@ add-copy-part c = search needs
 copy-part-requires : tie.Need-copy-part-requires
 copy-part-requires c κs = search needs
 
-cleared-flag-requires : tie.Need-cleared-flag-requires
-cleared-flag-requires c κs = search needs
+with-flag-cleared-requires : tie.Need-with-flag-cleared-requires
+with-flag-cleared-requires c κs = search needs
 
 good-requires : tie.Need-good-requires
 good-requires c κs = search needs
@@ -39,11 +39,11 @@ returns : tie.Need-returns
 returns c =
     let at-answer = c .before .before .before .before in
     let at-good2 = at-answer .before in
-    let at-cleared-flag = at-good2 .before .before .before in
-    let at-copy-part = at-cleared-flag .before .before .before in
+    let at-with-flag-cleared = at-good2 .before .before .before in
+    let at-copy-part = at-with-flag-cleared .before .before .before in
     let entry = at-copy-part .before .before .before .before .before .before in
     let a = entry .args in
-    sector-written (a .p) (a .lba) (a .d) (at-cleared-flag .cleared-flag .result) (historyOf (a .r .now)) (a .area .now) (a .disk .now) _ _ _ _ (at-good2 .good2 .ensures) (at-cleared-flag .cleared-flag .ensures) (at-copy-part .copy-part .ensures) (at-answer .answer .ensures)
+    sector-written (a .p) (a .lba) (a .d) (at-with-flag-cleared .with-flag-cleared .result) (historyOf (a .r .now)) (a .area .now) (a .disk .now) _ _ _ _ (at-good2 .good2 .ensures) (at-with-flag-cleared .with-flag-cleared .ensures) (at-copy-part .copy-part .ensures) (at-answer .answer .ensures)
 
 pub write-sector-spec : {M : Type 1} → statement M
 write-sector-spec =
@@ -53,7 +53,7 @@ write-sector-spec =
     mul-copy-part-2
     add-copy-part
     copy-part-requires
-    cleared-flag-requires
+    with-flag-cleared-requires
     good-requires
     answer-requires
     same-length

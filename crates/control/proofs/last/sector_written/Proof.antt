@@ -1,8 +1,8 @@
--- `control::last::advanced` meets its contract.
+-- `control::last::sector_written` meets its contract.
 use mathlib.Core.Path.{refl}
 use borrow.Author.Tests.{eq-eqb, ne-eqb}
-use Rattle.control.proofs.last.advanced.Statement.{statement}
-use Rattle.control.proofs.last.advanced.Tie as tie
+use Rattle.control.proofs.last.sector_written.Statement.{statement}
+use Rattle.control.proofs.last.sector_written.Tie as tie
 
 returns : tie.Need-returns
 returns c =
@@ -14,5 +14,5 @@ returns-2 c =
     let a = c .before .before .args in
     record { device = λ h. rw (ne-eqb (a .next) (a .end) (c .if1 .left)); stages = refl; four = refl }
 
-pub advanced-spec : {M : Type 1} → statement M
-advanced-spec = tie.close (tie.spec returns returns-2)
+pub sector-written-spec : {M : Type 1} → statement M
+sector-written-spec = tie.close (tie.spec returns returns-2)
