@@ -13,13 +13,15 @@ ghost use Rattle.model.specs.Device.{Device};
 ghost use Rattle.model.specs.Key.{word, start, count, highestState, timerName, featureName, fillChecks, timerChecks, featureChecks, tableChecks, fillEnd, fillAction, timerAction, featureAction, sendTable, patternSector, verdict, judgeKey};
 ghost use Rattle.command.specs.Meaning.{asDirection, asFeatureName, asVerdict, refusalOf};
 
+// "1 (write cache) ..; 2 (reordering) ..; 3 (log interval)"
 pub enum FeatureName {
     Cache,
     Reordering,
     Interval,
 }
 
-// A fill's numbers are its first sector and its end.
+// A fill's numbers are its first sector and its end. A timer is set to a number of 100 ms; a feature to a state, with true where the
+// option is 1: "Option 1 keeps a state over power".
 pub enum Action {
     FillPattern(u64, u64),
     FillSector(u64, u64),

@@ -9,11 +9,13 @@ ghost use Rattle.wire.specs.Parts.{part};
 ghost use Rattle.model.specs.Registers.{features, count8, count16, lbaLow, lbaMid, lbaHigh, lba48, sectorAccess, control, logPage, smartLog, logExt, requestOf};
 ghost use Rattle.command.specs.Meaning.{asDirection, asRequest};
 
+// Read: from the device to the host. Write: the other way.
 pub enum Direction {
     Read,
     Write,
 }
 
+// Data is E1h, with its sector count; Sector is 24h or 34h, with its sector count and its LBA. Other is "All else, and E0h with another count".
 pub enum Request {
     Status,
     Key,

@@ -66,6 +66,7 @@ pub fn interrupt(d: Device) -> Device
     }
 }
 
+// The device with another stored code.
 pub fn with_code(d: Device, code: u16) -> Device
     ensures { λ r. ⌜ Changed (withCode code) d r ⌝ }
 {
@@ -76,6 +77,7 @@ pub fn with_code(d: Device, code: u16) -> Device
     e
 }
 
+// "Words 0 and 1 are action and function; both are recorded from every key, accepted or not."
 pub fn with_key(d: Device, action: u16, function: u16) -> Device
     ensures { λ r. ⌜ Changed (withKey action function) d r ⌝ }
 {

@@ -37,6 +37,7 @@ fn log_sample(r: &mut [u8], t: Thermal, interval: u16, reading: u8)
     writing::log_reading(r, next_index(t.index) as usize, reading);
 }
 
+// "One sample is one minute." The reading goes into the record's history where it is logged, then the device into its fields.
 pub fn sample(r: &mut [u8], reading: u8)
     requires { ⌜ sound (now r) ≡ true ⌝ }
     ensures { λ _. ⌜ now (r .exit) ≡ ownerDone (sample reading) (now (r .entry)) .recordArea ⌝ }

@@ -11,6 +11,7 @@ ghost use Rattle.record.specs.Meaning.{asFeature, asSettings};
 ghost use Rattle.command.specs.Meaning.{asDirection, asFeatureName};
 ghost use Rattle.control.specs.Change.{Changed, FeatureSet, isRead, isCache, isInterval};
 
+// The recovery timer of reads or of writes.
 pub fn timer(dir: Direction, s: Settings) -> u16
     ensures { λ r. ⌜ r ≡ timer (asDirection dir) (asSettings s) ⌝ }
 {
@@ -41,6 +42,7 @@ fn with_timer(dir: Direction, n: u16, s: Settings) -> Settings
     t
 }
 
+// Sets the recovery timer of reads or of writes to n times 100 ms.
 pub fn set_timer(d: Device, dir: Direction, n: u16) -> Device
     ensures { λ r. ⌜ Changed (λ x. withSettings (withTimer (asDirection dir) n (x .settings)) x) d r ⌝ }
 {
@@ -51,6 +53,7 @@ pub fn set_timer(d: Device, dir: Direction, n: u16) -> Device
     e
 }
 
+// A feature's state and mark.
 pub fn feature(name: FeatureName, s: Settings) -> Feature
     ensures { λ r. ⌜ asFeature r ≡ feature (asFeatureName name) (asSettings s) ⌝ }
 {
@@ -97,7 +100,7 @@ fn with_feature(name: FeatureName, f: Feature, s: Settings) -> Settings
     t
 }
 
-// Sets a feature. "Any set of feature 3 empties the temperature history": the struct's part of it; the record's is the caller's.
+// Sets a feature. "Any set of feature 3 empties the temperature history": the index and minutes here; the caller empties the history in the record's bytes.
 pub fn set_feature(d: Device, name: FeatureName, state: u16, persistent: bool) -> Device
     ensures { λ r. ⌜ FeatureSet (asFeatureName name) state persistent d r ⌝ }
 {

@@ -46,6 +46,7 @@ pub fn logs(minutes: u16, interval: u16) -> bool
     minutes + 1 >= interval
 }
 
+// The temperatures, index and minutes after a sample: "When the minutes reach the interval, the sample (missing too) is logged and the minutes restart."
 pub fn sampled_thermal(t: Thermal, interval: u16, sample: u8) -> Thermal
     requires { ⌜ (t .minutes < interval) × (t .index < 478) ⌝ }
     ensures { λ r. ⌜ Sampled t interval sample r ⌝ }

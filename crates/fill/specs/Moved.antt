@@ -16,6 +16,6 @@ abbrev pub fillMoved : Fill → ℕ → Device → Device
 fillMoved idle k d = d
 fillMoved (running first next end) k d = advanced first (next + k) end (withInitialized false d)
 
--- "moves next by k"; no sector changes nothing, not even the flag
+-- "moves next by k"; with k = 0 nothing changes, not even the flag
 abbrev pub movedOn : ℕ → Device → Device
 movedOn k d = if eqb k 0 then d else fillMoved (d .command .fill) k d

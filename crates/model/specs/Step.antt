@@ -36,7 +36,7 @@ pub data Step : Type 0 where
   powerOn : List ℕ → ℕ → Step
 
 -- What the firmware sees of a step: the answer number, the count of sectors written, the mailbox, the image and its used
--- length afterwards. A step that is lent no mailbox or image has [] and 0 there.
+-- length afterwards. A step that is given no mailbox or image has [] and 0 there.
 pub record Seen : Type 0 where
   pub answer : ℕ
   pub count : ℕ
@@ -90,7 +90,7 @@ answeredMailbox n m = record { answer = n; count = 0; mailbox = m; image = []; u
 abbrev pub answeredImage : ℕ → List ℕ → ℕ → Seen
 answeredImage n image used = record { answer = n; count = 0; mailbox = []; image = image; used = used }
 
--- an answer that leaves the buffers as they were lent
+-- an answer that leaves the buffers as they were given
 abbrev pub unchanged : Step → ℕ → Seen
 unchanged (take p m) n = answeredMailbox n m
 unchanged (serve s) n = answerOnly n

@@ -78,7 +78,7 @@ pub record Served (p : ℕ) (k : Decision) (stages : List Stage) (a disk newReco
   pub areaBytes : newArea ≡ served p k stages a disk .privateArea
   pub diskBytes : newDisk ≡ served p k stages a disk .disk
 
--- .. by a function that is not lent the disk
+-- .. by a function that is not given the disk
 abbrev pub ServedBeside : ℕ → Decision → List Stage → List ℕ → List ℕ → List ℕ → Type 0
 ServedBeside p k stages a newRecord newArea = (disk : List ℕ) → Served p k stages a disk newRecord newArea disk
 

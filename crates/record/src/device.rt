@@ -10,12 +10,15 @@ pub enum Stage {
     Answered,
 }
 
+// A pending transfer, 01's owed transfer: the temperature table to the host, or a fill's sector from it, with the fill's first
+// sector and its end (the first sector behind it).
 pub enum Transfer {
     None,
     Table,
     FillData(u64, u64),
 }
 
+// No fill, or one that runs: its first sector, the next to write, and its end.
 pub enum Fill {
     Idle,
     Running(u64, u64, u64),
@@ -35,6 +38,7 @@ pub struct Command {
     pub fill: Fill,
 }
 
+// A feature's state, and whether it is kept over power: 01's mark.
 pub struct Feature {
     pub state: u16,
     pub persistent: bool,

@@ -1,5 +1,5 @@
 -- The ten entries: what each answers, and every byte afterwards of the buffers that it may write. The other buffers are
--- lent to be read only. An entry whose checks fail gives the number of the first and leaves all as they were.
+-- given to be read only. An entry whose checks fail gives the number of the first and leaves all as they were.
 use mathlib.Core.Bool.{Bool, true, false}
 use Prim.Native.Nat.{ℕ, _+_, _*_, _/_}
 use mathlib.Core.List.{List, [], _∷_, _++_}

@@ -9,7 +9,7 @@ use Rattle.store.specs.Entries.{takeBytes, serveBytes, giveBytes, workBy
 abbrev pub store : List ℕ → List ℕ → List ℕ → Store
 store r a disk = record { recordArea = r; privateArea = a; disk = disk }
 
--- an entry that is lent the record alone
+-- an entry that is given the record alone
 abbrev pub onRecord : OwnerAfter → Store → Outcome Store
 onRecord o s = record { state = store (o .recordArea) (s .privateArea) (s .disk); seen = answerOnly (o .answer) }
 

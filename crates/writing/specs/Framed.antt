@@ -1,4 +1,4 @@
--- A record whose bytes that never change stand: a write stores fields and nothing else.
+-- A record in which the bytes that no write changes are in place.
 use mathlib.Core.Path.{_≡_}
 use mathlib.Core.Bool.{true}
 use Prim.Native.Nat.{ℕ}
