@@ -56,7 +56,7 @@ module _ (t : code.Thermal.Thermal) (interval reading : ℕ) (r : List ℕ) wher
   abbrev later : Bool
   later = ltb (suc (t .minutes)) interval
 
-  -- `if !logs(..)` taken, and left
+  -- `if !is_logged(..)` taken, and left
   pub log-later : (l : Bool) → l ≡ not later → not l ≡ true → r ≡ loggedRecord t interval reading r
   log-later l e n = rw (twice later (sym (ap not e) ∙ n))
     where

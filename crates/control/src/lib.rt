@@ -21,7 +21,3 @@ pub use settings::feature;
 pub use settings::set_feature;
 pub use settings::set_timer;
 pub use settings::timer;
-pub use thermal::logs;
-pub use thermal::new_maximum;
-pub use thermal::next_index;
-pub use thermal::sampled_thermal;

@@ -1,5 +1,5 @@
 // A temperature sampled, on the record's bytes.
-use crate::thermal::logs;
+use crate::thermal::is_logged;
 use crate::thermal::next_index;
 use crate::thermal::sampled_thermal;
 use record::Device;
@@ -31,7 +31,7 @@ fn log_sample(r: &mut [u8], t: Thermal, interval: u16, reading: u8)
     requires { ⌜ (length (now r) ≡ recordSize) × (t .minutes < interval) × (t .index < 478) ⌝ }
     ensures { λ _. ⌜ now (r .exit) ≡ loggedRecord t interval reading (now (r .entry)) ⌝ }
 {
-    if !logs(t.minutes, interval) {
+    if !is_logged(t.minutes, interval) {
         return;
     }
     writing::log_reading(r, next_index(t.index) as usize, reading);

@@ -39,7 +39,7 @@ pub fn next_index(index: u16) -> u16
 }
 
 // Whether this minute's sample is logged.
-pub fn logs(minutes: u16, interval: u16) -> bool
+pub fn is_logged(minutes: u16, interval: u16) -> bool
     requires { ⌜ minutes < interval ⌝ }
     ensures { λ r. ⌜ r ≡ not (ltb (suc minutes) interval) ⌝ }
 {
@@ -53,7 +53,7 @@ pub fn sampled_thermal(t: Thermal, interval: u16, sample: u8) -> Thermal
 {
     let cycle = new_maximum(sample, t.cycle);
     let life = new_maximum(sample, t.life);
-    if logs(t.minutes, interval) {
+    if is_logged(t.minutes, interval) {
         let index = next_index(t.index);
         return Thermal {
             current: sample,

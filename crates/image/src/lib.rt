@@ -3,7 +3,6 @@ mod chain;
 mod entry;
 mod refusal;
 
-pub use chain::readable;
 pub use entry::TAG;
 pub use entry::previous_place;
 pub use refusal::read_refusal;

@@ -4,14 +4,14 @@ use borrow.Author.Needs.{needs}
 use Rattle.control.proofs.sampling.log_sample.Statement.{statement}
 use Rattle.control.proofs.sampling.log_sample.Tie as tie
 
-logs-requires : tie.Need-logs-requires
-logs-requires c κs = search needs
+is-logged-requires : tie.Need-is-logged-requires
+is-logged-requires c κs = search needs
 
 returns : tie.Need-returns
 returns c =
-    let at-logs = c .before in
-    let entry = at-logs .before .before in
-    log-later (entry .args .t) (entry .args .interval) (entry .args .reading) (entry .args .r .now) _ (at-logs .logs .ensures) (c .if1 .taken)
+    let at-is-logged = c .before in
+    let entry = at-is-logged .before .before in
+    log-later (entry .args .t) (entry .args .interval) (entry .args .reading) (entry .args .r .now) _ (at-is-logged .is-logged .ensures) (c .if1 .taken)
 
 next-index-requires : tie.Need-next-index-requires
 next-index-requires c κs = search needs
@@ -30,15 +30,15 @@ returns-2 c =
     let at-log-reading = c .before .before in
     let at-next-index = at-log-reading .before in
     let at-if1 = at-next-index .before .before in
-    let at-logs = at-if1 .before in
-    let entry = at-logs .before .before in
-    rw (at-log-reading .log-reading .ensures) (log-now (entry .args .t) (entry .args .interval) (entry .args .reading) (entry .args .r .now) _ _ (at-logs .logs .ensures) (at-if1 .if1 .left) (at-next-index .next-index .ensures))
+    let at-is-logged = at-if1 .before in
+    let entry = at-is-logged .before .before in
+    rw (at-log-reading .log-reading .ensures) (log-now (entry .args .t) (entry .args .interval) (entry .args .reading) (entry .args .r .now) _ _ (at-is-logged .is-logged .ensures) (at-if1 .if1 .left) (at-next-index .next-index .ensures))
 
 pub log-sample-spec : {M : Type 1} → statement M
 log-sample-spec =
     tie.close
     (tie.spec
-    logs-requires
+    is-logged-requires
     returns
     next-index-requires
     cast-log-reading
