@@ -21,14 +21,14 @@ use Rattle.model.specs.Fill.{Volume, advanced, sectorStep, iterate, remaining, 
 use Rattle.model.proofs.WorkLaws.{steps-device, steps-disk}
 use Rattle.record.specs.declared.device as code
 use Rattle.record.specs.Meaning.{asFill, asDevice, asContents, historyOf}
-use Rattle.store.specs.Record.{Contents, decode, encode}
+use Rattle.store.specs.Record.{fillNext, Contents, decode, encode}
 use Rattle.store.specs.Sound.{sound}
 use Rattle.store.specs.Store.{fillSectorOf}
 use Rattle.store.specs.Entries.{withDevice, workDone}
 use Rattle.store.proofs.SoundLaws.{sound-valid}
 use Rattle.control.specs.Change.{Changed}
 use Rattle.control.proofs.ChangeLaws.{changed-contents}
-use Rattle.fill.specs.Moved.{nextOf, fillMoved, movedOn}
+use Rattle.fill.specs.Moved.{fillMoved, movedOn}
 
 -- ---- the device
 
@@ -75,7 +75,7 @@ module _ (sector : List ℕ) (v : Volume) (whole : length sector ≡ sectorSize)
       go true t = rw (eqb-true k 0 t)
       go false t = let some = eqb-false k 0 t in let more : 0 < k = omega arith in steps-device first next end sector v e whole k more (omega arith)
 
-  steps-written : (f : Fill) (k : ℕ) → fill ≡ f → k ≤ remaining f → iterate k (sectorStep sector) v .disk ≡ sets (v .disk) (sectorSize * nextOf f) (repeated k sector)
+  steps-written : (f : Fill) (k : ℕ) → fill ≡ f → k ≤ remaining f → iterate k (sectorStep sector) v .disk ≡ sets (v .disk) (sectorSize * fillNext f) (repeated k sector)
   unfolding repeated
   steps-written idle k e h = let none : k ≡ 0 = omega arith in rw none
   steps-written (running first next end) k e h = go (decLt 0 k)
@@ -90,14 +90,14 @@ module _ (sector : List ℕ) (v : Volume) (whole : length sector ≡ sectorSize)
   work-device n = steps-moved fill (workCount n fill) refl (count-left n fill)
 
   -- .. and of its disk
-  pub work-sectors : (n : ℕ) → work n sector v .disk ≡ sets (v .disk) (sectorSize * nextOf fill) (repeated (workCount n fill) sector)
+  pub work-sectors : (n : ℕ) → work n sector v .disk ≡ sets (v .disk) (sectorSize * fillNext fill) (repeated (workCount n fill) sector)
   unfolding work
   work-sectors n = steps-written fill (workCount n fill) refl (count-left n fill)
 
 -- ---- on the bytes
 
 -- the sectors that a budget allows lie within the disk: "first ≤ next < end ≤ V"
-pub sectors-fit : (n : ℕ) (f : Fill) (visible native : ℕ) → FillValid visible f → visible ≤ native → nextOf f + workCount n f ≤ native
+pub sectors-fit : (n : ℕ) (f : Fill) (visible native : ℕ) → FillValid visible f → visible ≤ native → fillNext f + workCount n f ≤ native
 unfolding workCount
 sectors-fit n idle visible native v h = omega arith
 sectors-fit n (running first next end) visible native v h = omega (arith, v)
@@ -110,7 +110,7 @@ module _ (r a disk : List ℕ) (n k : ℕ) (d e : code.Device.Device) (says : as
   same-fill = ap (λ (c : Contents). c .device .command .fill) says
 
   pub work-fits : Bytes r → sound r ≡ true → length disk ≡ sectorSize * decode r .device .native
-      → sectorSize * (nextOf (asFill (d .command .fill)) + workCount n (asFill (d .command .fill))) ≤ length disk
+      → sectorSize * (fillNext (asFill (d .command .fill)) + workCount n (asFill (d .command .fill))) ≤ length disk
   work-fits b s size =
       let v = sound-valid r b s .device in
       let h = sectors-fit n (decode r .device .command .fill) (decode r .device .visible) (decode r .device .native) (v .commandValid .fillValid) (v .sizes .1) in
@@ -126,7 +126,7 @@ module _ (r a disk : List ℕ) (n k : ℕ) (d e : code.Device.Device) (says : as
       (changed-contents (movedOn k) d e (historyOf r) (decode r) says change
       ∙ ap (λ (x : Device). withDevice x (decode r)) (ap (λ (j : ℕ). movedOn j (decode r .device)) worked-count ∙ sym (work-device sector v whole n)))
 
-  pub worked-disk : length sector ≡ sectorSize → sets disk (sectorSize * nextOf (asFill (d .command .fill))) (repeated k sector) ≡ workDone r a disk n .disk
+  pub worked-disk : length sector ≡ sectorSize → sets disk (sectorSize * fillNext (asFill (d .command .fill))) (repeated k sector) ≡ workDone r a disk n .disk
   worked-disk whole =
       let v : Volume = record { device = decode r .device; disk = disk } in
-      (λ i. sets disk (sectorSize * nextOf (same-fill i)) (repeated (worked-count i) sector)) ∙ sym (work-sectors sector v whole n)
+      (λ i. sets disk (sectorSize * fillNext (same-fill i)) (repeated (worked-count i) sector)) ∙ sym (work-sectors sector v whole n)

@@ -7,11 +7,6 @@ use Rattle.model.specs.Device.{Fill, idle, running, Device}
 use Rattle.model.specs.Update.{withInitialized}
 use Rattle.model.specs.Fill.{advanced}
 
--- the sector that a fill writes next, 0 with no fill
-abbrev pub nextOf : Fill → ℕ
-nextOf idle = 0
-nextOf (running first next end) = next
-
 abbrev pub fillMoved : Fill → ℕ → Device → Device
 fillMoved idle k d = d
 fillMoved (running first next end) k d = advanced first (next + k) end (withInitialized false d)

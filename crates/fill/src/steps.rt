@@ -12,11 +12,11 @@ ghost use Rattle.model.specs.Fill.{remaining, workCount};
 ghost use Rattle.record.specs.Meaning.{asFill};
 ghost use Rattle.store.specs.Areas.{privateSize};
 ghost use Rattle.store.specs.Store.{fillSectorOf};
-ghost use Rattle.store.specs.Record.{decode};
+ghost use Rattle.store.specs.Record.{fillNext, decode};
 ghost use Rattle.store.specs.Sound.{sound};
 ghost use Rattle.store.specs.Entries.{workDone};
 ghost use Rattle.control.specs.Change.{Changed};
-ghost use Rattle.fill.specs.Moved.{nextOf, movedOn};
+ghost use Rattle.fill.specs.Moved.{movedOn};
 
 // a - b, and 0 where b is greater.
 fn difference(a: u64, b: u64) -> u64
@@ -45,7 +45,7 @@ fn count_of(n: u32, fill: Fill) -> u32
 
 // The sector that a fill writes next, 0 with no fill.
 fn next_of(fill: Fill) -> u64
-    ensures { λ r. ⌜ r ≡ nextOf (asFill fill) ⌝ }
+    ensures { λ r. ⌜ r ≡ fillNext (asFill fill) ⌝ }
 {
     match fill {
         Fill::Idle => 0,
