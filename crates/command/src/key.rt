@@ -9,6 +9,7 @@ ghost use lib.ListN.{length};
 ghost use lib.Dec.{eqb};
 ghost use Rattle.wire.specs.Choice.{if_then_else_, between, firstFailed};
 ghost use Rattle.wire.specs.Parts.{part};
+ghost use Rattle.model.specs.Sizes.{sectorSize};
 ghost use Rattle.model.specs.Device.{Device};
 ghost use Rattle.model.specs.Key.{word, start, count, highestState, timerName, featureName, fillChecks, timerChecks, featureChecks, tableChecks, fillEnd, fillAction, timerAction, featureAction, sendTable, patternSector, verdict, judgeKey};
 ghost use Rattle.command.specs.Meaning.{asDirection, asFeatureName, asVerdict, refusalOf};
@@ -199,8 +200,8 @@ fn table_key(function: u16, name: u16) -> KeyRead
 // The key sector at `at`: the lock comes first, with 0012h; then an action that is "not 2 to 5", with 0010h; then the action's checks.
 // Of the device a key's checks see the lock and V, and nothing else.
 pub fn read_key(area: &[u8], at: usize, locked: bool, visible: u64) -> KeyRead
-    requires { ⌜ (at + 512 ≤ length (now area)) × (1 ≤ visible) ⌝ }
-    ensures { λ r. ⌜ ((d : Device) → d .locked ≡ locked → d .visible ≡ visible → asVerdict r (patternSector (part (now (area .entry)) at 512)) ≡ judgeKey d (part (now (area .entry)) at 512)) ⌝ }
+    requires { ⌜ (at + sectorSize ≤ length (now area)) × (1 ≤ visible) ⌝ }
+    ensures { λ r. ⌜ ((d : Device) → d .locked ≡ locked → d .visible ≡ visible → asVerdict r (patternSector (part (now (area .entry)) at sectorSize)) ≡ judgeKey d (part (now (area .entry)) at sectorSize)) ⌝ }
 {
     if locked {
         return KeyRead::Refused(0x0012);

@@ -6,6 +6,7 @@ ghost use Prim.Native.Nat.{ℕ, _+_, _*_, _≤_};
 ghost use mathlib.Core.List.{List};
 ghost use lib.ListN.{length};
 ghost use Rattle.wire.specs.Parts.{part};
+ghost use Rattle.model.specs.Sizes.{mailboxSize};
 ghost use Rattle.model.specs.Registers.{features, count8, count16, lbaLow, lbaMid, lbaHigh, lba48, sectorAccess, control, logPage, smartLog, logExt, requestOf};
 ghost use Rattle.command.specs.Meaning.{asDirection, asRequest};
 
@@ -71,8 +72,8 @@ fn smart_page(feature: u8, count: u8, page: u8, mid: u8, high: u8) -> Request
 
 // "for B0h so are the previous bytes": only the current ones are read.
 fn smart_log(area: &[u8], at: usize) -> Request
-    requires { ⌜ at + 528 ≤ length (now area) ⌝ }
-    ensures { λ r. ⌜ asRequest r ≡ smartLog (part (now (area .entry)) at 528) ⌝ }
+    requires { ⌜ at + mailboxSize ≤ length (now area) ⌝ }
+    ensures { λ r. ⌜ asRequest r ≡ smartLog (part (now (area .entry)) at mailboxSize) ⌝ }
 {
     let feature = u8_at(area, at);
     let count = u8_at(area, at + 2);
@@ -84,8 +85,8 @@ fn smart_log(area: &[u8], at: usize) -> Request
 
 // "or 2Fh (read) or 3Fh (write) with both LBA Mid bytes 0"; "Sector Count .. (16 bits for 2Fh and 3Fh)"
 fn log_ext(dir: Direction, area: &[u8], at: usize) -> Request
-    requires { ⌜ at + 528 ≤ length (now area) ⌝ }
-    ensures { λ r. ⌜ asRequest r ≡ logExt (asDirection dir) (part (now (area .entry)) at 528) ⌝ }
+    requires { ⌜ at + mailboxSize ≤ length (now area) ⌝ }
+    ensures { λ r. ⌜ asRequest r ≡ logExt (asDirection dir) (part (now (area .entry)) at mailboxSize) ⌝ }
 {
     if u16_at(area, at + 6) != 0 {
         return Request::Other;
@@ -102,8 +103,8 @@ fn join24(a: u8, b: u8, c: u8) -> u64
 
 // "the 48-bit LBA, previous bytes giving bits 24 to 47 (document 004)"
 fn lba48(area: &[u8], at: usize) -> u64
-    requires { ⌜ at + 528 ≤ length (now area) ⌝ }
-    ensures { λ r. ⌜ r ≡ lba48 (part (now (area .entry)) at 528) ⌝ }
+    requires { ⌜ at + mailboxSize ≤ length (now area) ⌝ }
+    ensures { λ r. ⌜ r ≡ lba48 (part (now (area .entry)) at mailboxSize) ⌝ }
 {
     let current = join24(
         u8_at(area, at + 4),
@@ -120,8 +121,8 @@ fn lba48(area: &[u8], at: usize) -> u64
 
 // "24h and 34h: read or write one sector at the 48-bit LBA", with the Sector Count in 16 bits.
 fn sector(dir: Direction, area: &[u8], at: usize) -> Request
-    requires { ⌜ at + 528 ≤ length (now area) ⌝ }
-    ensures { λ r. ⌜ asRequest r ≡ sectorAccess (asDirection dir) (count16 (part (now (area .entry)) at 528)) (lba48 (part (now (area .entry)) at 528)) ⌝ }
+    requires { ⌜ at + mailboxSize ≤ length (now area) ⌝ }
+    ensures { λ r. ⌜ asRequest r ≡ sectorAccess (asDirection dir) (count16 (part (now (area .entry)) at mailboxSize)) (lba48 (part (now (area .entry)) at mailboxSize)) ⌝ }
 {
     let count = u16_at(area, at + 2);
     let lba = lba48(area, at);
@@ -130,8 +131,8 @@ fn sector(dir: Direction, area: &[u8], at: usize) -> Request
 
 // The request of the slot at `at`. "Input bytes 10 and 12 to 15 are ignored".
 pub fn request_of(area: &[u8], at: usize) -> Request
-    requires { ⌜ at + 528 ≤ length (now area) ⌝ }
-    ensures { λ r. ⌜ asRequest r ≡ requestOf (part (now (area .entry)) at 528) ⌝ }
+    requires { ⌜ at + mailboxSize ≤ length (now area) ⌝ }
+    ensures { λ r. ⌜ asRequest r ≡ requestOf (part (now (area .entry)) at mailboxSize) ⌝ }
 {
     let command = u8_at(area, at + 11);
     if command == 0xB0 {

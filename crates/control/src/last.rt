@@ -8,6 +8,7 @@ ghost use mathlib.Core.Path.{_≡_};
 ghost use mathlib.Core.Bool.{false};
 ghost use Prim.Native.Nat.{_<_};
 ghost use lib.ListN.{length, set};
+ghost use Rattle.model.specs.Sizes.{portCount};
 ghost use Rattle.model.specs.Device.{none};
 ghost use Rattle.model.specs.Update.{withCode, withKey, withInitialized, withPending};
 ghost use Rattle.model.specs.Fill.{interrupt, startFill, advanced};
@@ -36,7 +37,7 @@ fn stopped_code(f: Fill, code: u16) -> u16
 
 // "first stops a running fill (code 0008h) and drops an owed transfer"
 pub fn interrupt(d: Device) -> Device
-    requires { ⌜ length (d .slots) ≡ 4 ⌝ }
+    requires { ⌜ length (d .slots) ≡ portCount ⌝ }
     ensures { λ r. ⌜ Changed interrupt d r ⌝ }
 {
     let c = d.command;
@@ -144,7 +145,7 @@ pub fn with_flag_cleared(d: Device) -> Device
 
 // The device with a transfer pending for the port p.
 pub fn with_pending(d: Device, p: usize, t: Transfer) -> Device
-    requires { ⌜ (p < 4) × (length (d .slots) ≡ 4) ⌝ }
+    requires { ⌜ (p < portCount) × (length (d .slots) ≡ portCount) ⌝ }
     ensures { λ r. ⌜ Changed (λ x. withPending (set (x .command .pending) p (asTransfer t)) x) d r ⌝ }
 {
     let mut e = d;

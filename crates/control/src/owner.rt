@@ -6,13 +6,14 @@ use record::Stage;
 ghost use mathlib.Core.Path.{_≡_};
 ghost use Prim.Native.Nat.{_<_};
 ghost use lib.ListN.{length};
+ghost use Rattle.model.specs.Sizes.{portCount};
 ghost use Rattle.model.specs.Owner.{setLock, setVisible};
 ghost use Rattle.record.specs.Meaning.{asStage};
 ghost use Rattle.control.specs.Change.{Changed, Staged};
 
 // "Locking, unlocking and setting V do the same as other requests"
 pub fn set_lock(d: Device, locked: bool) -> Device
-    requires { ⌜ length (d .slots) ≡ 4 ⌝ }
+    requires { ⌜ length (d .slots) ≡ portCount ⌝ }
     ensures { λ r. ⌜ Changed (setLock locked) d r ⌝ }
 {
     let mut e = interrupt(d);
@@ -22,7 +23,7 @@ pub fn set_lock(d: Device, locked: bool) -> Device
 
 // "cleared .. by a changed V"
 pub fn set_visible(d: Device, visible: u64) -> Device
-    requires { ⌜ length (d .slots) ≡ 4 ⌝ }
+    requires { ⌜ length (d .slots) ≡ portCount ⌝ }
     ensures { λ r. ⌜ Changed (setVisible visible) d r ⌝ }
 {
     let mut e = interrupt(d);
@@ -33,7 +34,7 @@ pub fn set_visible(d: Device, visible: u64) -> Device
 
 // The device with slot p in a stage.
 pub fn with_stage(d: Device, p: usize, stage: Stage) -> Device
-    requires { ⌜ (p < 4) × (length (d .slots) ≡ 4) ⌝ }
+    requires { ⌜ (p < portCount) × (length (d .slots) ≡ portCount) ⌝ }
     ensures { λ r. ⌜ Staged p (asStage stage) d r ⌝ }
 {
     let mut e = d;

@@ -8,6 +8,7 @@ ghost use mathlib.Core.Path.{_≡_};
 ghost use mathlib.Core.Bool.{true};
 ghost use Prim.Native.Nat.{_<_};
 ghost use lib.ListN.{length};
+ghost use Rattle.model.specs.Sizes.{historySize};
 ghost use Rattle.store.specs.Areas.{recordSize};
 ghost use Rattle.store.specs.Sound.{sound};
 ghost use Rattle.store.specs.Entries.{ownerDone};
@@ -16,7 +17,7 @@ ghost use Rattle.control.specs.Change.{SampledDevice, loggedRecord};
 
 // The device after a sample; the history is the record's.
 fn sampled_device(d: Device, reading: u8) -> Device
-    requires { ⌜ (d .thermal .minutes < d .settings .interval .state) × (d .thermal .index < 478) ⌝ }
+    requires { ⌜ (d .thermal .minutes < d .settings .interval .state) × (d .thermal .index < historySize) ⌝ }
     ensures { λ e. ⌜ SampledDevice reading d e ⌝ }
 {
     let t = d.thermal;
@@ -28,7 +29,7 @@ fn sampled_device(d: Device, reading: u8) -> Device
 
 // "When the minutes reach the interval, the sample (missing too) is logged"
 fn log_sample(r: &mut [u8], t: Thermal, interval: u16, reading: u8)
-    requires { ⌜ (length (now r) ≡ recordSize) × (t .minutes < interval) × (t .index < 478) ⌝ }
+    requires { ⌜ (length (now r) ≡ recordSize) × (t .minutes < interval) × (t .index < historySize) ⌝ }
     ensures { λ _. ⌜ now (r .exit) ≡ loggedRecord t interval reading (now (r .entry)) ⌝ }
 {
     if !is_logged(t.minutes, interval) {

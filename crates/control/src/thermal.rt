@@ -4,6 +4,7 @@ ghost use mathlib.Core.Path.{_≡_};
 ghost use mathlib.Core.Bool.{not};
 ghost use Prim.Native.Nat.{_<_, suc};
 ghost use lib.Dec.{ltb};
+ghost use Rattle.model.specs.Sizes.{historySize};
 ghost use Rattle.model.specs.Temperature.{newMaximum, nextIndex};
 ghost use Rattle.control.specs.Change.{shifted, Sampled};
 
@@ -32,7 +33,7 @@ pub fn new_maximum(sample: u8, old: u8) -> u8
 
 // "a reading is logged at index + 1, and 0 follows 477"
 pub fn next_index(index: u16) -> u16
-    requires { ⌜ index < 478 ⌝ }
+    requires { ⌜ index < historySize ⌝ }
     ensures { λ r. ⌜ r ≡ nextIndex index ⌝ }
 {
     if index == 477 { 0 } else { index + 1 }
@@ -48,7 +49,7 @@ pub fn is_logged(minutes: u16, interval: u16) -> bool
 
 // The temperatures, index and minutes after a sample: "When the minutes reach the interval, the sample (missing too) is logged and the minutes restart."
 pub fn sampled_thermal(t: Thermal, interval: u16, sample: u8) -> Thermal
-    requires { ⌜ (t .minutes < interval) × (t .index < 478) ⌝ }
+    requires { ⌜ (t .minutes < interval) × (t .index < historySize) ⌝ }
     ensures { λ r. ⌜ Sampled t interval sample r ⌝ }
 {
     let cycle = new_maximum(sample, t.cycle);

@@ -6,6 +6,7 @@ ghost use Prim.Native.Nat.{_+_, _≤_};
 ghost use mathlib.Core.List.{[]};
 ghost use lib.ListN.{length};
 ghost use lib.Seq.{sets};
+ghost use Rattle.model.specs.Sizes.{mailboxSize};
 ghost use Rattle.model.specs.Registers.{good, refused, refusedWith, registersBytes, replyBytes};
 ghost use Rattle.reply.specs.Meaning.{asRegisters};
 
@@ -55,7 +56,7 @@ pub fn refused_with(code: u16) -> Reply
 
 // Writes the registers of a reply. "In a reply every byte not named is 0"
 pub fn put_registers(area: &mut [u8], at: usize, r: Reply)
-    requires { ⌜ at + 528 ≤ length (now area) ⌝ }
+    requires { ⌜ at + mailboxSize ≤ length (now area) ⌝ }
     ensures { λ _. ⌜ now (area .exit) ≡ sets (now (area .entry)) at (registersBytes (asRegisters r)) ⌝ }
 {
     zero_part(area, at, 16);
@@ -68,7 +69,7 @@ pub fn put_registers(area: &mut [u8], at: usize, r: Reply)
 
 // Writes a reply without data. ".. and the sector is zeros unless data is returned."
 pub fn put_reply(area: &mut [u8], at: usize, r: Reply)
-    requires { ⌜ at + 528 ≤ length (now area) ⌝ }
+    requires { ⌜ at + mailboxSize ≤ length (now area) ⌝ }
     ensures { λ _. ⌜ now (area .exit) ≡ sets (now (area .entry)) at (replyBytes (asRegisters r) []) ⌝ }
 {
     put_registers(area, at, r);

@@ -19,8 +19,10 @@ ghost use lib.Seq.{sets};
 ghost use Rattle.wire.specs.Choice.{bit};
 ghost use Rattle.wire.specs.Parts.{part};
 ghost use Rattle.wire.specs.Layout.{stores, placed};
+ghost use Rattle.model.specs.Sizes.{sectorSize, mailboxSize};
 ghost use Rattle.model.specs.Registers.{good, replyBytes};
 ghost use Rattle.model.specs.Status.{driveState, currentLba, statusHead, statusCommand, statusTemperatures, statusSector};
+ghost use Rattle.store.specs.Areas.{recordSize, headSize};
 ghost use Rattle.record.specs.Meaning.{asFill, asThermal, asCommand, asDevice};
 
 // "flag bit 0 at 6"
@@ -52,7 +54,7 @@ fn current_lba(fill: Fill) -> u64
 
 // "format 0002h; version 0001h at 2; spec 0001h at 4; flag bit 0 at 6; state at 10"
 fn put_head(area: &mut [u8], at: usize, initialized: bool, fill: Fill)
-    requires { ⌜ at + 512 ≤ length (now area) ⌝ }
+    requires { ⌜ at + sectorSize ≤ length (now area) ⌝ }
     ensures { λ _. ⌜ now (area .exit) ≡ stores (placed at (statusHead initialized (asFill fill))) (now (area .entry)) ⌝ }
 {
     put_u16(area, at, 0x0002);
@@ -64,7 +66,7 @@ fn put_head(area: &mut [u8], at: usize, initialized: bool, fill: Fill)
 
 // "code 14; action 16; function 18; LBA 40-47 the next sector, 0 with no fill"
 fn put_command(area: &mut [u8], at: usize, c: Command)
-    requires { ⌜ at + 512 ≤ length (now area) ⌝ }
+    requires { ⌜ at + sectorSize ≤ length (now area) ⌝ }
     ensures { λ _. ⌜ now (area .exit) ≡ stores (placed at (statusCommand (asCommand c []))) (now (area .entry)) ⌝ }
 {
     put_u16(area, at + 14, c.code);
@@ -76,7 +78,7 @@ fn put_command(area: &mut [u8], at: usize, c: Command)
 
 // "temperatures at 200 (now), 202 (this power cycle), 204 (life)"
 fn put_temperatures(area: &mut [u8], at: usize, t: Thermal)
-    requires { ⌜ at + 512 ≤ length (now area) ⌝ }
+    requires { ⌜ at + sectorSize ≤ length (now area) ⌝ }
     ensures { λ _. ⌜ now (area .exit) ≡ stores (placed at (statusTemperatures (asThermal t []))) (now (area .entry)) ⌝ }
 {
     put_u8(area, at + 200, t.current);
@@ -86,7 +88,7 @@ fn put_temperatures(area: &mut [u8], at: usize, t: Thermal)
 
 // The reply of a good status read. "All else 0."
 pub fn put_status(area: &mut [u8], at: usize, d: Device)
-    requires { ⌜ at + 528 ≤ length (now area) ⌝ }
+    requires { ⌜ at + mailboxSize ≤ length (now area) ⌝ }
     ensures { λ _. ⌜ ((h : List ℕ) → now (area .exit) ≡ sets (now (area .entry)) at (replyBytes (good 0 0) (statusSector (asDevice d h)))) ⌝ }
 {
     put_reply(area, at, good(0, 0));
@@ -100,8 +102,8 @@ pub fn put_status(area: &mut [u8], at: usize, d: Device)
 
 // The reply of an E1h read of the table: "A table is sent as it stands at the E1h read." It is the record's second half.
 pub fn put_table(area: &mut [u8], at: usize, rec: &[u8])
-    requires { ⌜ (at + 528 ≤ length (now area)) × (1024 ≤ length (now rec)) ⌝ }
-    ensures { λ _. ⌜ now (area .exit) ≡ sets (now (area .entry)) at (replyBytes (good 0 0) (part (now (rec .entry)) 512 512)) ⌝ }
+    requires { ⌜ (at + mailboxSize ≤ length (now area)) × (recordSize ≤ length (now rec)) ⌝ }
+    ensures { λ _. ⌜ now (area .exit) ≡ sets (now (area .entry)) at (replyBytes (good 0 0) (part (now (rec .entry)) headSize sectorSize)) ⌝ }
 {
     put_registers(area, at, good(0, 0));
     copy_part(area, at + 16, rec, 512, 512);

@@ -2,11 +2,12 @@
 ghost use mathlib.Core.Path.{_≡_};
 ghost use Prim.Native.Nat.{_+_, _≤_};
 ghost use lib.ListN.{length};
+ghost use Rattle.model.specs.Sizes.{sectorSize};
 ghost use Rattle.store.specs.InPlace.{tableFixed};
 
 // Whether the fixed bytes of the table at `at` are right.
 pub fn table_fixed(run: &[u8], at: usize) -> bool
-    requires { ⌜ at + 512 ≤ length (now run) ⌝ }
+    requires { ⌜ at + sectorSize ≤ length (now run) ⌝ }
     ensures { λ r. ⌜ r ≡ tableFixed (now (run .entry)) at ⌝ }
 {
     let versions = wire::u32_at(run, at);
