@@ -1,14 +1,14 @@
--- What a changed struct says of the record: the contents with the device changed, or with another stage.
+-- What a changed struct says of the record: the contents with the device changed.
 use mathlib.Core.Path.{_≡_, sym, ap, _∙_}
 use mathlib.Core.List.{List}
 use Prim.Native.Nat.{ℕ}
 use lib.ListN.{length, length-map}
 use Rattle.model.specs.Device.{Device}
-use Rattle.store.specs.Record.{Stage, Contents, decode}
-use Rattle.store.specs.Entries.{withStage, withDevice}
+use Rattle.store.specs.Record.{Contents, decode}
+use Rattle.store.specs.Entries.{withDevice}
 use Rattle.record.specs.declared.device as code
-use Rattle.record.specs.Meaning.{asDevice, asContents, stagesOf}
-use Rattle.control.specs.Change.{Changed, Staged}
+use Rattle.record.specs.Meaning.{asContents}
+use Rattle.control.specs.Change.{Changed}
 
 -- a struct that says a record's contents has four slots
 pub four-slots : (d : code.Device.Device) (h r : List ℕ) → asContents d h ≡ decode r → length (d .slots) ≡ 4
@@ -20,9 +20,3 @@ pub changed-contents : (rule : Device → Device) (d e : code.Device.Device) (h 
 changed-contents rule d e h c says change =
     (λ i. record { device = change .device h i; stages = change .stages i })
     ∙ ap (λ (x : Contents). withDevice (rule (x .device)) x) says
-
-pub staged-contents : (p : ℕ) (s : Stage) (d e : code.Device.Device) (h : List ℕ) (c : Contents)
-    → asContents d h ≡ c → Staged p s d e → asContents e h ≡ withStage p s c
-staged-contents p s d e h c says change =
-    (λ i. record { device = change .device h i; stages = change .stages i })
-    ∙ ap (withStage p s) says

@@ -1,4 +1,4 @@
--- A slot with another stage or another pending transfer, in the array of four.
+-- A slot with another pending transfer, in the array of four.
 use mathlib.Core.Path.{_≡_, refl, ap}
 use mathlib.Core.List.{List, [], _∷_, map}
 use Prim.Native.Nat.{ℕ, zero, suc}
@@ -9,7 +9,7 @@ use Rattle.model.specs.Update.{withPending}
 use Rattle.store.specs.Record.{Stage}
 use Rattle.record.specs.declared.device as code
 use Rattle.record.specs.Meaning.{asStage, asTransfer, asDevice}
-use Rattle.control.specs.Change.{Changed, Staged}
+use Rattle.control.specs.Change.{Changed}
 
 -- a map of a list with one element changed
 map-set : {A B : Type 0} (f : A → B) (l : List A) (i : ℕ) (y : A) → map f (set l i y) ≡ set (map f l) i (f y)
@@ -35,16 +35,6 @@ slotStage s = asStage (s .stage)
 
 abbrev slotPending : code.Slot.Slot → Transfer
 slotPending s = asTransfer (s .pending)
-
-pub stage-set : (d : code.Device.Device) (p : ℕ) (k : code.Stage.Stage) (z : code.Slot.Slot)
-    → Staged p (asStage k) d (withSlots d (set (d .slots) p (record { stage = k; pending = getD (d .slots) p z .pending })))
-stage-set d p k z =
-    let y : code.Slot.Slot = record { stage = k; pending = getD (d .slots) p z .pending } in
-    record {
-      device = λ h. ap (λ (ts : List Transfer). withPending ts (asDevice d h)) (map-set-same slotPending (d .slots) p y z refl);
-      stages = map-set slotStage (d .slots) p y;
-      four = length-set (d .slots) p y;
-    }
 
 pub pending-set : (d : code.Device.Device) (p : ℕ) (t : code.Transfer.Transfer) (z : code.Slot.Slot)
     → Changed (λ x. withPending (set (x .command .pending) p (asTransfer t)) x) d

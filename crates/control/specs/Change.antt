@@ -6,7 +6,6 @@ use Prim.Native.Nat.{ℕ, suc, _+_, _-_}
 use lib.ListN.{length, set}
 use lib.Dec.{ltb}
 use Rattle.model.specs.Device.{Fill, idle, running, Device}
-use Rattle.store.specs.Record.{Stage}
 use Rattle.record.specs.Meaning.{asThermal, asDevice, stagesOf}
 use Rattle.wire.specs.Choice.{if_then_else_}
 use Rattle.model.specs.Registers.{Direction, read, write}
@@ -23,12 +22,6 @@ use Rattle.record.specs.declared.device as code
 pub record Changed (rule : Device → Device) (d r : code.Device.Device) : Type 0 where
   pub device : (h : List ℕ) → asDevice r h ≡ rule (asDevice d h)
   pub stages : stagesOf (r .slots) ≡ stagesOf (d .slots)
-  pub four : length (r .slots) ≡ length (d .slots)
-
--- the same device, with another stage of slot p
-pub record Staged (p : ℕ) (stage : Stage) (d r : code.Device.Device) : Type 0 where
-  pub device : (h : List ℕ) → asDevice r h ≡ asDevice d h
-  pub stages : stagesOf (r .slots) ≡ set (stagesOf (d .slots)) p stage
   pub four : length (r .slots) ≡ length (d .slots)
 
 -- the code after a fill was stopped: 0008h where one ran

@@ -15,7 +15,6 @@ pub use last::with_key;
 pub use last::with_pending;
 pub use owner::set_lock;
 pub use owner::set_visible;
-pub use owner::with_stage;
 pub use sampling::sample;
 pub use settings::feature;
 pub use settings::set_feature;

@@ -25,8 +25,8 @@ pub fn finish(r: &mut [u8], p: usize, d: Device)
     requires { ⌜ Framed (now r) × (p < 4) × (length (d .slots) ≡ 4) ⌝ }
     ensures { λ _. ⌜ now (r .exit) ≡ encode (withStage p answered (asContents d (historyOf (now (r .entry))))) ⌝ }
 {
-    let e = control::with_stage(d, p, Stage::Answered);
-    writing::write(r, e);
+    writing::write(r, d);
+    writing::put_stage(r, p, Stage::Answered);
 }
 
 // Leaves a reply without data.

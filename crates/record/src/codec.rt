@@ -134,6 +134,14 @@ fn thermal_at(r: &[u8]) -> Thermal
     }
 }
 
+// The stage of slot i.
+pub fn stage_at(r: &[u8], i: usize) -> Stage
+    requires { ⌜ (length (now r) ≡ recordSize) × (i < 4) ⌝ }
+    ensures { λ res. ⌜ asStage res ≡ stageAt (now (r .entry)) i ⌝ }
+{
+    stage_of(wire::u8_at(r, 72 + 24 * i))
+}
+
 // Slot i.
 fn slot_at(r: &[u8], i: usize) -> Slot
     requires { ⌜ (length (now r) ≡ recordSize) × (i < 4) ⌝ }
@@ -141,7 +149,7 @@ fn slot_at(r: &[u8], i: usize) -> Slot
     ensures pending { λ res. ⌜ asTransfer (res .pending) ≡ transferAt (now (r .entry)) i ⌝ }
 {
     let at = 72 + 24 * i;
-    let stage = stage_of(wire::u8_at(r, at));
+    let stage = stage_at(r, i);
     let pending = transfer_of(
         wire::u8_at(r, at + 1),
         wire::u64_at(r, at + 8),
@@ -150,12 +158,20 @@ fn slot_at(r: &[u8], i: usize) -> Slot
     Slot { stage, pending }
 }
 
+// N, the disk's size in sectors.
+pub fn native_at(r: &[u8]) -> u64
+    requires { ⌜ length (now r) ≡ recordSize ⌝ }
+    ensures { λ n. ⌜ n ≡ decode (now (r .entry)) .device .native ⌝ }
+{
+    wire::u64_at(r, 0)
+}
+
 // The device that the record's bytes say.
 pub fn decode(r: &[u8]) -> Device
     requires { ⌜ length (now r) ≡ recordSize ⌝ }
     ensures { λ res. ⌜ asContents res (historyOf (now (r .entry))) ≡ decode (now (r .entry)) ⌝ }
 {
-    let native = wire::u64_at(r, 0);
+    let native = native_at(r);
     let visible = wire::u64_at(r, 8);
     let locked = flag_at(r, 16);
     let initialized = flag_at(r, 17);

@@ -3,6 +3,8 @@ mod codec;
 mod device;
 
 pub use codec::decode;
+pub use codec::native_at;
+pub use codec::stage_at;
 pub use device::Command;
 pub use device::Device;
 pub use device::Feature;

@@ -1,37 +1,34 @@
 -- What the checks of a step say of the record when they pass.
 use mathlib.Core.Path.{_≡_, refl, sym, ap, _∙_}
 use mathlib.Core.Bool.{Bool, true}
-use mathlib.Core.List.{List, [], _∷_}
-use Prim.Native.Nat.{ℕ, zero, suc, _*_, _+_, _/_, _≤_, _<_}
+use mathlib.Core.List.{List}
+use Prim.Native.Nat.{ℕ, _*_, _+_, _/_, _≤_, _<_}
 use native.Mathlib.Omega.{arith}
-use lib.ListN.{length, getD}
+use lib.ListN.{length}
 use lib.Dec.{leb, ltb}
 use borrow.Author.Tests.{eqb-true, leb-true, ltb-true}
 use Rattle.wire.specs.Choice.{firstFailed}
 use Rattle.wire.specs.Bytes.{Bytes}
+use Rattle.wire.specs.Numbers.{put}
 use Rattle.wire.proofs.ChoiceLaws.{and-left, and-right, all-pass, pass-all}
 use Rattle.model.specs.Sizes.{sectorSize, nativeLimit, portCount, mailboxSize, entrySize, entryLimit}
 use Rattle.model.specs.Image.{entries, imageChecks}
 use Rattle.store.specs.Areas.{recordSize, privateSize}
-use Rattle.store.specs.Record.{Stage, empty, Contents, decode}
+use Rattle.store.specs.Record.{Stage, stageNumber, slotAt, encode, decode}
 use Rattle.store.specs.Sound.{sound}
-use Rattle.store.specs.Entries.{mailboxChecks, serveChecks, workChecks, visibleChecks, saveChecks, powerOnChecks}
-use Rattle.store.proofs.SoundLaws.{sound-valid}
-use Rattle.record.specs.declared.device as code
-use Rattle.record.specs.Meaning.{asStage, asContents, stagesOf, historyOf}
-
--- the stage of a slot
-pub slot-stage : (slots : List code.Slot.Slot) (p : ℕ) (z : code.Slot.Slot) → p < length slots → asStage (getD slots p z .stage) ≡ getD (stagesOf slots) p empty
-slot-stage [] p z h = absurd (omega arith)
-slot-stage (s ∷ slots) zero z h = refl
-slot-stage (s ∷ slots) (suc p) z h = slot-stage slots p z (omega arith)
+use Rattle.store.specs.Entries.{withStage, mailboxChecks, serveChecks, workChecks, visibleChecks, saveChecks, powerOnChecks}
+use Rattle.store.proofs.SoundLaws.{sound-parts, sound-valid}
+use Rattle.store.proofs.StageLaws.{stage-stored}
 
 -- "N ≤ 65,536"
-pub native-limit : (r : List ℕ) (d : code.Device.Device) → Bytes r → sound r ≡ true → asContents d (historyOf r) ≡ decode r → d .native ≤ nativeLimit
-native-limit r d b s says =
-    let v = sound-valid r b s .device .sizes in
-    let same = ap (λ (c : Contents). c .device .native) says in
-    omega (arith, v, same)
+pub native-limit : (r : List ℕ) → Bytes r → sound r ≡ true → decode r .device .native ≤ nativeLimit
+native-limit r b s = sound-valid r b s .device .sizes .2
+
+-- the stage of a slot, stored in a sound record
+pub sound-stage : (r : List ℕ) (p : ℕ) (s : Stage) → sound r ≡ true → p < portCount → put 1 r (slotAt p) (stageNumber s) ≡ encode (withStage p s (decode r))
+unfolding decode
+sound-stage r p s e h =
+    ap (λ (l : List ℕ). put 1 l (slotAt p) (stageNumber s)) (sym (sound-parts r e .again)) ∙ stage-stored (decode r) p s refl h
 
 -- ---- what passed
 

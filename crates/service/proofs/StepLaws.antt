@@ -1,13 +1,10 @@
 -- Each step at its two exits: a refusal leaves all as it was, and what is done is the store's definition.
 use mathlib.Core.Path.{_≡_, refl, sym, ap, _∙_}
 use mathlib.Core.Bool.{true, false}
-use mathlib.Core.List.{List, [], _∷_, append-nil}
+use mathlib.Core.List.{List}
 use Prim.Native.Nat.{ℕ}
 use native.Mathlib.Omega.{arith}
 use lib.ListN.{length}
-use lib.Seq.{sets, length-sets}
-use Rattle.wire.specs.Parts.{part}
-use Rattle.wire.proofs.PartsLaws.{part-append-left, part-same}
 use Rattle.wire.specs.Choice.{Check, firstFailed}
 use Rattle.wire.proofs.ChoiceLaws.{chosen-refusal, chosen-done}
 use Rattle.model.specs.Sizes.{done}
@@ -89,13 +86,3 @@ module _ (r a disk image : List ℕ) (used n : ℕ) where
   pub power-on-done : n ≡ firstFailed (powerOnChecks r a disk image used) → n ≡ 0 → powerOnBytes r a disk image used ≡ powerOnDone disk image used
   unfolding powerOnBytes
   power-on-done e z = chosen-done n (firstFailed (powerOnChecks r a disk image used)) (powerOnDone disk image used) _ e z
-
--- ---- whole buffers
-
-pub part-whole : (l : List ℕ) (n : ℕ) → length l ≡ n → part l 0 n ≡ l
-part-whole l n e = ap (λ (m : List ℕ). part m 0 n) (sym (append-nil l)) ∙ part-append-left l [] n e
-
--- a slot's bytes over all of a mailbox
-pub sets-whole : (vs l : List ℕ) (n : ℕ) → length vs ≡ n → length l ≡ n → sets l 0 vs ≡ vs
-sets-whole vs l n v e =
-    sym (part-whole (sets l 0 vs) n (length-sets l 0 vs ∙ e)) ∙ part-same vs l 0 n v (omega (arith, e))

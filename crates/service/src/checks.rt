@@ -1,17 +1,18 @@
 // The checks of the steps, in the order of their numbers: 4, 2, 1, 5, 3.
-use record::Device;
-use record::Slot;
 use record::Stage;
 ghost use mathlib.Core.Path.{_≡_};
+ghost use mathlib.Core.Bool.{true};
 ghost use mathlib.Core.List.{List, [], _∷_};
-ghost use Prim.Native.Nat.{ℕ, _*_, _≤_, _<_};
-ghost use lib.ListN.{length, getD};
+ghost use Prim.Native.Nat.{ℕ, _*_};
+ghost use lib.ListN.{length};
 ghost use lib.Dec.{eqb};
 ghost use Rattle.wire.specs.Choice.{firstFailed};
-ghost use Rattle.model.specs.Sizes.{sectorSize, nativeLimit};
-ghost use Rattle.store.specs.Record.{empty, held, decode};
+ghost use Rattle.model.specs.Sizes.{sectorSize};
+ghost use Rattle.store.specs.Areas.{recordSize};
+ghost use Rattle.store.specs.Record.{decode};
+ghost use Rattle.store.specs.Sound.{sound};
 ghost use Rattle.store.specs.Entries.{goodPort, inStage, mailboxChecks, serveChecks, workChecks};
-ghost use Rattle.record.specs.Meaning.{asStage, stagesOf};
+ghost use Rattle.record.specs.Meaning.{asStage};
 ghost use Rattle.service.specs.Needed.{isStage};
 
 // Whether a stage is the one that a step needs.
@@ -37,25 +38,15 @@ fn is_stage(needed: Stage, stage: Stage) -> bool
     }
 }
 
-// The stage of slot p.
-fn stage_of(d: Device, p: usize) -> Stage
-    requires { ⌜ (p < 4) × (length (d .slots) ≡ 4) ⌝ }
-    ensures { λ s. ⌜ asStage s ≡ getD (stagesOf (d .slots)) p empty ⌝ }
-{
-    let slots = d.slots;
-    let s = slots[p];
-    s.stage
-}
-
 // "port above 3": 1; "slot not in the stage the step needs": 3.
-fn slot_refusal(d: Device, port: u32, needed: Stage) -> u32
-    requires { ⌜ length (d .slots) ≡ 4 ⌝ }
-    ensures { λ n. ⌜ ((r : List ℕ) → stagesOf (d .slots) ≡ decode r .stages → n ≡ firstFailed (goodPort port ∷ inStage (isStage (asStage needed)) r port ∷ [])) ⌝ }
+fn slot_refusal(device: &[u8], port: u32, needed: Stage) -> u32
+    requires { ⌜ length (now device) ≡ recordSize ⌝ }
+    ensures { λ n. ⌜ n ≡ firstFailed (goodPort port ∷ inStage (isStage (asStage needed)) (now (device .entry)) port ∷ []) ⌝ }
 {
     if port >= 4 {
         return 1;
     }
-    if !is_stage(needed, stage_of(d, port as usize)) {
+    if !is_stage(needed, record::stage_at(device, port as usize)) {
         return 3;
     }
     0
@@ -74,15 +65,15 @@ pub fn mailbox_refusal(device: &[u8], port: u32, mailbox: usize, area: usize, ne
     if area != 2624 {
         return 2;
     }
-    slot_refusal(record::decode(device), port, needed)
+    slot_refusal(device, port, needed)
 }
 
 // "the disk isn't N sectors": 2.
-fn is_disk(d: Device, disk: usize) -> bool
-    requires { ⌜ d .native ≤ nativeLimit ⌝ }
-    ensures { λ r. ⌜ r ≡ eqb disk (sectorSize * d .native) ⌝ }
+fn is_disk(device: &[u8], disk: usize) -> bool
+    requires { ⌜ sound (now device) ≡ true ⌝ }
+    ensures { λ r. ⌜ r ≡ eqb disk (sectorSize * decode (now (device .entry)) .device .native) ⌝ }
 {
-    disk as u64 == 512 * d.native
+    disk as u64 == 512 * record::native_at(device)
 }
 
 // The checks of serve.
@@ -95,11 +86,10 @@ pub fn serve_refusal(device: &[u8], port: u32, area: usize, disk: usize) -> u32
     if area != 2624 {
         return 2;
     }
-    let d = record::decode(device);
-    if !is_disk(d, disk) {
+    if !is_disk(device, disk) {
         return 2;
     }
-    slot_refusal(d, port, Stage::Held)
+    slot_refusal(device, port, Stage::Held)
 }
 
 // The checks of work.
@@ -112,8 +102,7 @@ pub fn work_refusal(device: &[u8], area: usize, disk: usize) -> u32
     if area != 2624 {
         return 2;
     }
-    let d = record::decode(device);
-    if !is_disk(d, disk) {
+    if !is_disk(device, disk) {
         return 2;
     }
     0

@@ -14,8 +14,7 @@ fn save_refusal(device: &[u8], image: &[u8], used: usize) -> u32
     if !soundness::sound(device) {
         return 4;
     }
-    let d = record::decode(device);
-    image::save_refusal(d.native, image, used)
+    image::save_refusal(record::native_at(device), image, used)
 }
 
 // "A save adds one entry behind the used length; other bytes stay."

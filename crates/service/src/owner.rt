@@ -42,7 +42,7 @@ fn visible_refusal(device: &[u8], v: u64) -> u32
     if !soundness::sound(device) {
         return 4;
     }
-    let native = record::decode(device).native;
+    let native = record::native_at(device);
     if !((1 <= v) & (v <= native)) {
         return 5;
     }

@@ -3,22 +3,7 @@ use crate::checks::mailbox_refusal;
 use crate::checks::serve_refusal;
 use record::Stage;
 ghost use mathlib.Core.Path.{_≡_};
-ghost use mathlib.Core.Bool.{true};
-ghost use Prim.Native.Nat.{_<_};
-ghost use Rattle.store.specs.Record.{decode, encode};
-ghost use Rattle.store.specs.Sound.{sound};
-ghost use Rattle.store.specs.Entries.{withStage, takeBytes, serveBytes, giveBytes};
-ghost use Rattle.record.specs.Meaning.{asStage};
-
-// Writes the stage of slot p into the record.
-fn put_stage(device: &mut [u8], p: usize, stage: Stage)
-    requires { ⌜ (sound (now device) ≡ true) × (p < 4) ⌝ }
-    ensures { λ _. ⌜ now (device .exit) ≡ encode (withStage p (asStage stage) (decode (now (device .entry)))) ⌝ }
-{
-    let d = record::decode(device);
-    let e = control::with_stage(d, p, stage);
-    writing::write(device, e);
-}
+ghost use Rattle.store.specs.Entries.{takeBytes, serveBytes, giveBytes};
 
 // "Take (port): copies the mailbox into the port's slot. Slot goes from empty to held."
 #[no_mangle]
@@ -33,7 +18,7 @@ pub extern "C" fn sct_take(device: &mut [u8], port: u32, mailbox: &[u8], area: &
     }
     let p = port as usize;
     wire::copy_part(area, 528 * p, mailbox, 0, 528);
-    put_stage(device, p, Stage::Held);
+    writing::put_stage(device, p, Stage::Held);
     0
 }
 
@@ -66,6 +51,6 @@ pub extern "C" fn sct_give(device: &mut [u8], port: u32, mailbox: &mut [u8], are
     }
     let p = port as usize;
     wire::copy_part(mailbox, 0, area, 528 * p, 528);
-    put_stage(device, p, Stage::Empty);
+    writing::put_stage(device, p, Stage::Empty);
     0
 }

@@ -4,6 +4,7 @@ pub mod SoundLaws
 pub mod TableInPlace
 pub mod InPlaceLaws
 pub mod WrittenLaws
+pub mod StageLaws
 pub mod EntryLaws
 pub mod FollowLaws
 pub mod StepFollows

@@ -153,3 +153,13 @@ part-repeated (suc n) l size (suc j) e h =
   where
     mul-suc' : (a b : ℕ) → a * suc b ≡ a + a * b
     mul-suc' a b = omega arith
+
+-- ---- whole runs
+
+pub part-whole : (l : List ℕ) (n : ℕ) → length l ≡ n → part l 0 n ≡ l
+part-whole l n e = ap (λ (m : List ℕ). part m 0 n) (sym (append-nil l)) ∙ part-append-left l [] n e
+
+-- a run stored over all of another
+pub sets-whole : (vs l : List ℕ) (n : ℕ) → length vs ≡ n → length l ≡ n → sets l 0 vs ≡ vs
+sets-whole vs l n v e =
+    sym (part-whole (sets l 0 vs) n (length-sets l 0 vs ∙ e)) ∙ part-same vs l 0 n v (omega (arith, e))

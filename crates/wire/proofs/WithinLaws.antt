@@ -11,10 +11,11 @@ use lib.Dec.{leb}
 use Rattle.wire.specs.Numbers.{le, put}
 use Rattle.wire.specs.Parts.{zeros}
 use Rattle.wire.specs.Layout.{Field, stores, placed, form, ordered}
-use Rattle.wire.proofs.ChoiceLaws.{and-right}
+use borrow.Author.Tests.{leb-true}
+use Rattle.wire.proofs.ChoiceLaws.{and-left, and-right}
 use Rattle.wire.proofs.NumbersLaws.{length-le, length-put}
-use Rattle.wire.proofs.PartsLaws.{length-zeros, sets-append}
-use Rattle.wire.proofs.LayoutLaws.{ordered-end}
+use Rattle.wire.proofs.PartsLaws.{length-zeros, sets-append, sets-whole}
+use Rattle.wire.proofs.LayoutLaws.{ordered-end, stores-append}
 
 set-sets-before : (xs l : List ℕ) (at i a : ℕ) → i < at → set (sets l at xs) i a ≡ sets (set l i a) at xs
 set-sets-before [] l at i a h = refl
@@ -64,3 +65,33 @@ pub form-within : (n : ℕ) (fs : List Field) (l : List ℕ) (at : ℕ) → orde
     → stores (placed at fs) (sets l at (zeros n)) ≡ sets l at (form n fs)
 unfolding form
 form-within n fs l at o = stores-within fs 0 n at l (zeros n) o (rw (length-zeros n) (omega arith))
+
+-- ---- one field of a layout stored again
+
+put-again : (k : ℕ) (l : List ℕ) (at v w : ℕ) → put k (put k l at v) at w ≡ put k l at w
+unfolding put
+put-again k l at v w =
+    ap (λ (i : ℕ). sets (sets l at (le k v)) i (le k w)) (sym (add-zero at))
+    ∙ sets-within (le k w) (le k v) l at 0 (rw (length-le k w, length-le k v) (omega arith))
+    ∙ ap (sets l at) (sets-whole (le k w) (le k v) k (length-le k w) (length-le k v))
+
+-- behind a field stand other fields: they are stored before or after it
+put-early : (hs : List Field) (from n k at w : ℕ) (l : List ℕ) → ordered from n hs ≡ true → at + k ≤ from
+    → put k (stores hs l) at w ≡ stores hs (put k l at w)
+put-early [] from n k at w l o h = refl
+put-early (f ∷ hs) from n k at w l o h =
+    let below = leb-true from (f .0) (and-left (leb from (f .0)) (ordered (f .0 + f .1) n hs) o) in
+    put-early hs (f .0 + f .1) n k at w (put (f .1) l (f .0) (f .2)) (and-right (leb from (f .0)) (ordered (f .0 + f .1) n hs) o) (omega arith)
+    ∙ ap (stores hs) (apart below)
+  where
+    apart : from ≤ f .0 → put k (put (f .1) l (f .0) (f .2)) at w ≡ put (f .1) (put k l at w) (f .0) (f .2)
+    apart b = unfold put in (sets-apart (le k w) (le (f .1) (f .2)) l at (f .0) (rw (length-le k w) (omega arith)))
+
+-- THE LAW of a field stored again: it is that field with the new value
+pub field-set : (gs hs : List Field) (n k at v w : ℕ) (l : List ℕ) → ordered (at + k) n hs ≡ true
+    → put k (stores (gs ++ (at, k, v) ∷ hs) l) at w ≡ stores (gs ++ (at, k, w) ∷ hs) l
+field-set gs hs n k at v w l o =
+    ap (λ (m : List ℕ). put k m at w) (stores-append gs ((at, k, v) ∷ hs) l)
+    ∙ put-early hs (at + k) n k at w (put k (stores gs l) at v) o (omega arith)
+    ∙ ap (stores hs) (put-again k (stores gs l) at v w)
+    ∙ sym (stores-append gs ((at, k, w) ∷ hs) l)

@@ -12,6 +12,7 @@ ghost use mathlib.Core.List.{[]};
 ghost use Prim.Native.Nat.{_<_};
 ghost use lib.ListN.{length};
 ghost use Rattle.wire.specs.Choice.{bit};
+ghost use Rattle.wire.specs.Numbers.{put};
 ghost use Rattle.wire.specs.Layout.{stores, Fit};
 ghost use Rattle.store.specs.Areas.{recordSize};
 ghost use Rattle.store.specs.Record.{stageNumber, fillKind, fillFirst, fillNext, fillEnd, transferKind, transferFirst, transferEnd, sizeFields, commandFields, settingsFields, thermalFields, fillFields, slotAt, slotFields, slotsFields, tableNumbers, encode};
@@ -200,6 +201,14 @@ fn put_table(r: &mut [u8], interval: u16, index: u16)
 {
     wire::put_u16(r, 516, interval);
     wire::put_u16(r, 544, index);
+}
+
+// Writes the stage of slot p, and nothing else.
+pub fn put_stage(r: &mut [u8], p: usize, stage: Stage)
+    requires { ⌜ (length (now r) ≡ recordSize) × (p < 4) ⌝ }
+    ensures { λ _. ⌜ now (r .exit) ≡ put 1 (now (r .entry)) (slotAt p) (stageNumber (asStage stage)) ⌝ }
+{
+    wire::put_u8(r, 72 + 24 * p, stage_number(stage));
 }
 
 // Writes the device into a record; the history stays.

@@ -3,6 +3,7 @@ mod fields;
 mod framing;
 mod history;
 
+pub use fields::put_stage;
 pub use fields::write;
 pub use framing::frame;
 pub use history::empty_history;

@@ -28,7 +28,8 @@ same-length-2 c = search needs
 
 returns : tie.Need-returns
 returns c =
-    let at-finish = c .before .before in
+    let at-before = c .before in
+    let at-finish = at-before .before in
     let at-start-fill = at-finish .before .before in
     let at-put-reply = at-start-fill .before .before .before in
     let at-good2 = at-put-reply .before in

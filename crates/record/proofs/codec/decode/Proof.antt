@@ -6,11 +6,11 @@ use borrow.Author.Needs.{needs}
 use Rattle.record.proofs.codec.decode.Statement.{statement}
 use Rattle.record.proofs.codec.decode.Tie as tie
 
+native-at-requires : tie.Need-native-at-requires
+native-at-requires c κs = search needs
+
 u64-at-requires : tie.Need-u64-at-requires
 u64-at-requires c κs = search needs
-
-u64-at-requires-2 : tie.Need-u64-at-requires-2
-u64-at-requires-2 c κs = search needs
 
 flag-at-requires : tie.Need-flag-at-requires
 flag-at-requires c κs = search needs
@@ -50,14 +50,14 @@ returns c =
     let at-command-at = at-settings-at .before in
     let at-flag-at2 = at-command-at .before in
     let at-flag-at = at-flag-at2 .before in
-    let at-u64-at2 = at-flag-at .before in
-    let at-u64-at = at-u64-at2 .before in
+    let at-u64-at = at-flag-at .before in
+    let at-native-at = at-u64-at .before in
     λ i.
     record {
       device =
           record {
-            native = at-u64-at .u64-at .ensures i;
-            visible = at-u64-at2 .u64-at2 .ensures i;
+            native = at-native-at .native-at .ensures i;
+            visible = at-u64-at .u64-at .ensures i;
             locked = at-flag-at .flag-at .ensures i;
             initialized = at-flag-at2 .flag-at2 .ensures i;
             command =
@@ -78,8 +78,8 @@ pub decode-spec : {M : Type 1} → statement M
 decode-spec =
     tie.close
     (tie.spec
+    native-at-requires
     u64-at-requires
-    u64-at-requires-2
     flag-at-requires
     flag-at-requires-2
     command-at-requires

@@ -1,6 +1,6 @@
 -- `record::codec::slot_at` meets its contract.
-use mathlib.Core.Path.{_∙_, ap}
-use Rattle.store.specs.Record.{stageOf, transferOf}
+use mathlib.Core.Path.{_∙_}
+use Rattle.store.specs.Record.{transferOf}
 use borrow.Author.Needs.{needs}
 use Rattle.record.proofs.codec.slot_at.Statement.{statement}
 use Rattle.record.proofs.codec.slot_at.Tie as tie
@@ -11,17 +11,14 @@ mul-at c = search needs
 add-at : tie.Need-add-at
 add-at c = search needs
 
-u8-at-requires : tie.Need-u8-at-requires
-u8-at-requires c κs = search needs
-
-stage-of-requires : tie.Need-stage-of-requires
-stage-of-requires c κs = search needs
+stage-at-requires : tie.Need-stage-at-requires
+stage-at-requires c κs = search needs
 
 add-u8-at : tie.Need-add-u8-at
 add-u8-at c = search needs
 
-u8-at-requires-2 : tie.Need-u8-at-requires-2
-u8-at-requires-2 c κs = search needs
+u8-at-requires : tie.Need-u8-at-requires
+u8-at-requires c κs = search needs
 
 add-u64-at : tie.Need-add-u64-at
 add-u64-at c = search needs
@@ -40,12 +37,11 @@ transfer-of-requires c κs = search needs
 
 returns : tie.Need-returns
 returns c =
-    let at-u64-at = c .before .before in
-    let at-u8-at2 = at-u64-at .before in
-    let at-stage-of = at-u8-at2 .before in (
-      at-stage-of .stage-of .ensures ∙ ap stageOf (at-stage-of .before .u8-at .ensures),
-      c .transfer-of .ensures ∙ (λ i. transferOf (at-u8-at2 .u8-at2 .ensures i) (at-u64-at .u64-at .ensures i) (c .before .u64-at2 .ensures i)),
-    )
+    let at-u64-at2 = c .before in
+    let at-u64-at = at-u64-at2 .before in
+    let at-u8-at = at-u64-at .before in
+    let at-stage-at = at-u8-at .before in
+    (at-stage-at .stage-at .ensures, c .transfer-of .ensures ∙ (λ i. transferOf (at-u8-at .u8-at .ensures i) (at-u64-at .u64-at .ensures i) (at-u64-at2 .u64-at2 .ensures i)))
 
 pub slot-at-spec : {M : Type 1} → statement M
 slot-at-spec =
@@ -53,10 +49,9 @@ slot-at-spec =
     (tie.spec
     mul-at
     add-at
-    u8-at-requires
-    stage-of-requires
+    stage-at-requires
     add-u8-at
-    u8-at-requires-2
+    u8-at-requires
     add-u64-at
     u64-at-requires
     add-u64-at-2

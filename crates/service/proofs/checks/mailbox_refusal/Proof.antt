@@ -1,9 +1,5 @@
 -- `service::checks::mailbox_refusal` meets its contract.
-use mathlib.Core.Path.{ap}
-use Rattle.store.specs.Record.{Contents}
 use Rattle.store.proofs.SoundLaws.{sound-parts}
-use Rattle.record.specs.Meaning.{historyOf}
-use Rattle.control.proofs.ChangeLaws.{four-slots}
 use borrow.Author.Tests.{ne-eqb, eq-eqb}
 use Rattle.command.proofs.TestLaws.{passed, failed}
 use borrow.Author.Needs.{needs}
@@ -27,36 +23,22 @@ returns-3 c =
     let entry = at-sound .before .before in
     λ m a em ea. rw (passed (at-sound .sound .ensures) (at-if1 .if1 .left), em, ea, eq-eqb (entry .args .mailbox) 528 (at-if2 .if2 .left), ne-eqb (entry .args .area) 2624 (c .if3 .taken))
 
-decode-requires : tie.Need-decode-requires
-decode-requires c κs =
+slot-refusal-requires : tie.Need-slot-refusal-requires
+slot-refusal-requires c κs =
     let at-if1 = c .before .before in
     let at-sound = at-if1 .before in
     let entry = at-sound .before .before in
     sound-parts (entry .args .device .now) (passed (at-sound .sound .ensures) (at-if1 .if1 .left)) .size
 
-slot-refusal-requires : tie.Need-slot-refusal-requires
-slot-refusal-requires c κs =
-    let entry = c .before .before .before .before .before .before in
-    four-slots (c .decode .result) (historyOf (entry .args .device .now)) (entry .args .device .now) (c .decode .ensures)
-
 returns-4 : tie.Need-returns-4
 returns-4 c =
-    let at-decode = c .before in
-    let at-if3 = at-decode .before in
+    let at-if3 = c .before in
     let at-if2 = at-if3 .before in
     let at-if1 = at-if2 .before in
     let at-sound = at-if1 .before in
     let entry = at-sound .before .before in
-    λ m a em ea. rw (passed (at-sound .sound .ensures) (at-if1 .if1 .left), em, ea, eq-eqb (entry .args .mailbox) 528 (at-if2 .if2 .left), eq-eqb (entry .args .area) 2624 (at-if3 .if3 .left)) (c .slot-refusal .ensures (entry .args .device .now) (ap (λ (x : Contents). x .stages) (at-decode .decode .ensures)))
+    λ m a em ea. rw (passed (at-sound .sound .ensures) (at-if1 .if1 .left), em, ea, eq-eqb (entry .args .mailbox) 528 (at-if2 .if2 .left), eq-eqb (entry .args .area) 2624 (at-if3 .if3 .left)) (c .slot-refusal .ensures)
 
 pub mailbox-refusal-spec : {M : Type 1} → statement M
 mailbox-refusal-spec =
-    tie.close
-    (tie.spec
-    sound-requires
-    returns
-    returns-2
-    returns-3
-    decode-requires
-    slot-refusal-requires
-    returns-4)
+    tie.close (tie.spec sound-requires returns returns-2 returns-3 slot-refusal-requires returns-4)

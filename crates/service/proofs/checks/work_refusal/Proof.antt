@@ -1,11 +1,4 @@
 -- `service::checks::work_refusal` meets its contract.
-use mathlib.Core.Path.{_∙_, ap}
-use native.Mathlib.Omega.{arith}
-use Prim.Native.Nat.{_*_}
-use lib.Dec.{eqb}
-use Rattle.store.specs.Record.{Contents}
-use Rattle.store.proofs.SoundLaws.{sound-parts}
-use Rattle.service.proofs.CheckLaws.{native-limit}
 use borrow.Author.Tests.{ne-eqb, eq-eqb}
 use Rattle.command.proofs.TestLaws.{passed, failed}
 use borrow.Author.Needs.{needs}
@@ -25,45 +18,27 @@ returns-2 c =
     let entry = at-sound .before .before in
     λ a disk ea ed. rw (passed (at-sound .sound .ensures) (at-if1 .if1 .left), ea, ne-eqb (entry .args .area) 2624 (c .if2 .taken))
 
-decode-requires : tie.Need-decode-requires
-decode-requires c κs = sound-parts (c .before .before .before .before .args .device .now) (passed (c .before .before .sound .ensures) (c .before .if1 .left)) .size
-
 is-disk-requires : tie.Need-is-disk-requires
-is-disk-requires c κs =
-    let at-if1 = c .before .before in
-    let at-sound = at-if1 .before in
-    let known = at-sound .before in
-    let entry = known .before in
-    native-limit (entry .args .device .now) (c .decode .result) (λ i. omega (arith, known .shared-slice-known .given i)) (passed (at-sound .sound .ensures) (at-if1 .if1 .left)) (c .decode .ensures)
+is-disk-requires c κs = passed (c .before .before .sound .ensures) (c .before .if1 .left)
 
 returns-3 : tie.Need-returns-3
 returns-3 c =
     let at-is-disk = c .before in
-    let at-decode = at-is-disk .before in
-    let at-if2 = at-decode .before in
+    let at-if2 = at-is-disk .before in
     let at-if1 = at-if2 .before in
     let at-sound = at-if1 .before in
     let entry = at-sound .before .before in
-    λ a disk ea ed. rw (passed (at-sound .sound .ensures) (at-if1 .if1 .left), ea, ed, eq-eqb (entry .args .area) 2624 (at-if2 .if2 .left), failed (at-is-disk .is-disk .ensures ∙ ap (λ (x : Contents). eqb (entry .args .disk) (512 * x .device .native)) (at-decode .decode .ensures)) (c .if3 .taken))
+    λ a disk ea ed. rw (passed (at-sound .sound .ensures) (at-if1 .if1 .left), ea, ed, eq-eqb (entry .args .area) 2624 (at-if2 .if2 .left), failed (at-is-disk .is-disk .ensures) (c .if3 .taken))
 
 returns-4 : tie.Need-returns-4
 returns-4 c =
     let at-is-disk = c .before in
-    let at-decode = at-is-disk .before in
-    let at-if2 = at-decode .before in
+    let at-if2 = at-is-disk .before in
     let at-if1 = at-if2 .before in
     let at-sound = at-if1 .before in
     let entry = at-sound .before .before in
-    λ a disk ea ed. rw (passed (at-sound .sound .ensures) (at-if1 .if1 .left), ea, ed, eq-eqb (entry .args .area) 2624 (at-if2 .if2 .left), passed (at-is-disk .is-disk .ensures ∙ ap (λ (x : Contents). eqb (entry .args .disk) (512 * x .device .native)) (at-decode .decode .ensures)) (c .if3 .left))
+    λ a disk ea ed. rw (passed (at-sound .sound .ensures) (at-if1 .if1 .left), ea, ed, eq-eqb (entry .args .area) 2624 (at-if2 .if2 .left), passed (at-is-disk .is-disk .ensures) (c .if3 .left))
 
 pub work-refusal-spec : {M : Type 1} → statement M
 work-refusal-spec =
-    tie.close
-    (tie.spec
-    sound-requires
-    returns
-    returns-2
-    decode-requires
-    is-disk-requires
-    returns-3
-    returns-4)
+    tie.close (tie.spec sound-requires returns returns-2 is-disk-requires returns-3 returns-4)

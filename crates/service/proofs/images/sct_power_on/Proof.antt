@@ -2,9 +2,9 @@
 use mathlib.Core.Path.{refl}
 use native.Mathlib.Omega.{arith}
 use Rattle.store.specs.Areas.{privateSize}
-use Rattle.wire.proofs.PartsLaws.{length-zeros}
+use Rattle.wire.proofs.PartsLaws.{length-zeros, sets-whole}
 use Rattle.service.proofs.CheckLaws.{power-on-passed}
-use Rattle.service.proofs.StepLaws.{power-on-refused, power-on-done, sets-whole}
+use Rattle.service.proofs.StepLaws.{power-on-refused, power-on-done}
 use borrow.Author.Needs.{needs}
 use Rattle.service.proofs.images.sct_power_on.Statement.{statement}
 use Rattle.service.proofs.images.sct_power_on.Tie as tie
@@ -30,7 +30,8 @@ zero-part-requires c κs =
 
 put-restored-requires : tie.Need-put-restored-requires
 put-restored-requires c κs =
-    let at-if1 = c .before .before .before .before .before in
+    let at-before = c .before .before .before .before in
+    let at-if1 = at-before .before in
     let at-power-on-refusal = at-if1 .before in
     let entry = at-power-on-refusal .before .before .before .before .before in
     let a = entry .args in
@@ -45,7 +46,8 @@ same-length-2 c = search needs
 
 returns-2 : tie.Need-returns-2
 returns-2 c =
-    let at-put-restored = c .before .before in
+    let at-before = c .before in
+    let at-put-restored = at-before .before in
     let at-zero-part = at-put-restored .before .before .before .before in
     let at-if1 = at-zero-part .before .before in
     let at-power-on-refusal = at-if1 .before in

@@ -42,7 +42,8 @@ same-length-2 c = search needs
 
 returns-2 : tie.Need-returns-2
 returns-2 c =
-    let at-write = c .before .before in
+    let at-before = c .before in
+    let at-write = at-before .before in
     let at-set-lock = at-write .before .before in
     let at-decode = at-set-lock .before in
     let at-if1 = at-decode .before .before in

@@ -1,6 +1,6 @@
 -- `service::owner::visible_refusal` meets its contract.
 use mathlib.Core.Path.{ap}
-use Rattle.store.specs.Record.{Contents}
+use Prim.Native.Nat.{ℕ}
 use Rattle.store.proofs.SoundLaws.{sound-parts}
 use Rattle.command.proofs.TestLaws.{passed, failed}
 use Rattle.wire.specs.Choice.{between}
@@ -14,25 +14,25 @@ sound-requires c κs = search needs
 returns : tie.Need-returns
 returns c = rw (failed (c .before .sound .ensures) (c .if1 .taken))
 
-decode-requires : tie.Need-decode-requires
-decode-requires c κs = sound-parts (c .before .before .before .args .device .now) (passed (c .before .sound .ensures) (c .if1 .left)) .size
+native-at-requires : tie.Need-native-at-requires
+native-at-requires c κs = sound-parts (c .before .before .before .args .device .now) (passed (c .before .sound .ensures) (c .if1 .left)) .size
 
 returns-2 : tie.Need-returns-2
 returns-2 c =
-    let at-decode = c .before in
-    let at-if1 = at-decode .before in
+    let at-native-at = c .before in
+    let at-if1 = at-native-at .before in
     let at-sound = at-if1 .before in
     let entry = at-sound .before .before in
-    rw (passed (at-sound .sound .ensures) (at-if1 .if1 .left), failed (ap (λ (x : Contents). between 1 (entry .args .v) (x .device .native)) (at-decode .decode .ensures)) (c .if2 .taken))
+    rw (passed (at-sound .sound .ensures) (at-if1 .if1 .left), failed (ap (λ (n : ℕ). between 1 (entry .args .v) n) (at-native-at .native-at .ensures)) (c .if2 .taken))
 
 returns-3 : tie.Need-returns-3
 returns-3 c =
-    let at-decode = c .before in
-    let at-if1 = at-decode .before in
+    let at-native-at = c .before in
+    let at-if1 = at-native-at .before in
     let at-sound = at-if1 .before in
     let entry = at-sound .before .before in
-    rw (passed (at-sound .sound .ensures) (at-if1 .if1 .left), passed (ap (λ (x : Contents). between 1 (entry .args .v) (x .device .native)) (at-decode .decode .ensures)) (c .if2 .left))
+    rw (passed (at-sound .sound .ensures) (at-if1 .if1 .left), passed (ap (λ (n : ℕ). between 1 (entry .args .v) n) (at-native-at .native-at .ensures)) (c .if2 .left))
 
 pub visible-refusal-spec : {M : Type 1} → statement M
 visible-refusal-spec =
-    tie.close (tie.spec sound-requires returns decode-requires returns-2 returns-3)
+    tie.close (tie.spec sound-requires returns native-at-requires returns-2 returns-3)

@@ -2,10 +2,12 @@
 use mathlib.Core.Path.{refl}
 use Prim.Native.Nat.{_*_}
 use native.Mathlib.Omega.{arith}
-use Rattle.wire.proofs.PartsLaws.{length-part}
+use Rattle.wire.proofs.PartsLaws.{length-part, sets-whole}
+use Rattle.store.specs.Record.{empty}
 use Rattle.store.specs.Entries.{isAnswered}
-use Rattle.service.proofs.CheckLaws.{mailbox-passed}
-use Rattle.service.proofs.StepLaws.{give-refused, give-done, sets-whole}
+use Rattle.store.proofs.SoundLaws.{sound-parts}
+use Rattle.service.proofs.CheckLaws.{mailbox-passed, sound-stage}
+use Rattle.service.proofs.StepLaws.{give-refused, give-done}
 use borrow.Author.Needs.{needs}
 use Rattle.service.proofs.ports.sct_give.Statement.{statement}
 use Rattle.service.proofs.ports.sct_give.Tie as tie
@@ -42,7 +44,7 @@ put-stage-requires c κs =
     let entry = at-mailbox-refusal .before .before .before .before .before in
     let a = entry .args in
     let ok = mailbox-passed isAnswered (a .device .now) (a .port) (a .mailbox .now) (a .area .now) (at-mailbox-refusal .mailbox-refusal .ensures (a .mailbox .now) (a .area .now) refl refl) (at-if1 .if1 .left) in
-    (ok .isSound, ok .port)
+    (sound-parts (a .device .now) (ok .isSound) .size, ok .port)
 
 same-length-2 : tie.Need-same-length-2
 same-length-2 c = search needs
@@ -60,7 +62,7 @@ returns-2 c =
     let a = entry .args in
     let ok = mailbox-passed isAnswered (a .device .now) (a .port) (a .mailbox .now) (a .area .now) (at-mailbox-refusal .mailbox-refusal .ensures (a .mailbox .now) (a .area .now) refl refl) (at-if1 .if1 .left) in
     rw (give-done (a .device .now) (a .port) (a .mailbox .now) (a .area .now) (at-mailbox-refusal .mailbox-refusal .result) (at-mailbox-refusal .mailbox-refusal .ensures (a .mailbox .now) (a .area .now) refl refl) (at-if1 .if1 .left))
-    (refl, (at-put-stage .put-stage .ensures, rw (at-copy-part .copy-part .ensures) (sets-whole _ (a .mailbox .now) 528 (length-part (a .area .now) (528 * a .port) 528 (omega (arith, ok))) (ok .mailboxSized))))
+    (refl, (rw (at-put-stage .put-stage .ensures) (sound-stage (a .device .now) (a .port) empty (ok .isSound) (ok .port)), rw (at-copy-part .copy-part .ensures) (sets-whole _ (a .mailbox .now) 528 (length-part (a .area .now) (528 * a .port) 528 (omega (arith, ok))) (ok .mailboxSized))))
 
 pub sct-give-spec : {M : Type 1} → statement M
 sct-give-spec =

@@ -1,6 +1,5 @@
 -- `service::ports::sct_serve` meets its contract.
 use mathlib.Core.Path.{refl}
-use mathlib.Core.Path.{refl}
 use Rattle.service.proofs.CheckLaws.{serve-passed}
 use Rattle.service.proofs.StepLaws.{serve-refused, serve-done}
 use borrow.Author.Needs.{needs}

@@ -4,10 +4,13 @@ use mathlib.Core.List.{List}
 use Prim.Native.Nat.{ℕ}
 use native.Mathlib.Omega.{arith}
 use lib.Seq.{sets}
+use Rattle.wire.proofs.PartsLaws.{part-whole}
 use Rattle.store.specs.Areas.{slotPlace}
+use Rattle.store.specs.Record.{held}
 use Rattle.store.specs.Entries.{isEmpty}
-use Rattle.service.proofs.CheckLaws.{mailbox-passed}
-use Rattle.service.proofs.StepLaws.{take-refused, take-done, part-whole}
+use Rattle.store.proofs.SoundLaws.{sound-parts}
+use Rattle.service.proofs.CheckLaws.{mailbox-passed, sound-stage}
+use Rattle.service.proofs.StepLaws.{take-refused, take-done}
 use borrow.Author.Needs.{needs}
 use Rattle.service.proofs.ports.sct_take.Statement.{statement}
 use Rattle.service.proofs.ports.sct_take.Tie as tie
@@ -44,7 +47,7 @@ put-stage-requires c κs =
     let entry = at-mailbox-refusal .before .before .before .before .before in
     let a = entry .args in
     let ok = mailbox-passed isEmpty (a .device .now) (a .port) (a .mailbox .now) (a .area .now) (at-mailbox-refusal .mailbox-refusal .ensures (a .mailbox .now) (a .area .now) refl refl) (at-if1 .if1 .left) in
-    (ok .isSound, ok .port)
+    (sound-parts (a .device .now) (ok .isSound) .size, ok .port)
 
 same-length-2 : tie.Need-same-length-2
 same-length-2 c = search needs
@@ -62,7 +65,7 @@ returns-2 c =
     let a = entry .args in
     let ok = mailbox-passed isEmpty (a .device .now) (a .port) (a .mailbox .now) (a .area .now) (at-mailbox-refusal .mailbox-refusal .ensures (a .mailbox .now) (a .area .now) refl refl) (at-if1 .if1 .left) in
     rw (take-done (a .device .now) (a .port) (a .mailbox .now) (a .area .now) (at-mailbox-refusal .mailbox-refusal .result) (at-mailbox-refusal .mailbox-refusal .ensures (a .mailbox .now) (a .area .now) refl refl) (at-if1 .if1 .left))
-    (refl, (at-put-stage .put-stage .ensures, rw (at-copy-part .copy-part .ensures) (ap (λ (l : List ℕ). sets (a .area .now) (slotPlace (a .port)) l) (part-whole (a .mailbox .now) 528 (ok .mailboxSized)))))
+    (refl, (rw (at-put-stage .put-stage .ensures) (sound-stage (a .device .now) (a .port) held (ok .isSound) (ok .port)), rw (at-copy-part .copy-part .ensures) (ap (λ (l : List ℕ). sets (a .area .now) (slotPlace (a .port)) l) (part-whole (a .mailbox .now) 528 (ok .mailboxSized)))))
 
 pub sct-take-spec : {M : Type 1} → statement M
 sct-take-spec =

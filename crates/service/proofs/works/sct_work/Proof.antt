@@ -44,7 +44,8 @@ same-length-3 c = search needs
 
 returns-2 : tie.Need-returns-2
 returns-2 c =
-    let at-work = c .before .before .before .before .before in
+    let at-before = c .before .before .before .before in
+    let at-work = at-before .before in
     let at-if1 = at-work .before .before .before in
     let at-work-refusal = at-if1 .before in
     let entry = at-work-refusal .before .before .before .before .before in
