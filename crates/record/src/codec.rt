@@ -62,7 +62,7 @@ fn flag_at(r: &[u8], at: usize) -> bool
 }
 
 // The fill: its kind stands in byte 18, its three numbers from byte 48.
-fn fill_at(r: &[u8]) -> Fill
+pub fn fill_at(r: &[u8]) -> Fill
     requires { ⌜ length (now r) ≡ recordSize ⌝ }
     ensures { λ res. ⌜ asFill res ≡ decode (now (r .entry)) .device .command .fill ⌝ }
 {
@@ -74,6 +74,14 @@ fn fill_at(r: &[u8]) -> Fill
     )
 }
 
+// The stored code.
+pub fn code_at(r: &[u8]) -> u16
+    requires { ⌜ length (now r) ≡ recordSize ⌝ }
+    ensures { λ n. ⌜ n ≡ decode (now (r .entry)) .device .command .code ⌝ }
+{
+    wire::u16_at(r, 20)
+}
+
 // The last command. What the ports have pending stands in their slots.
 fn command_at(r: &[u8]) -> Command
     requires { ⌜ length (now r) ≡ recordSize ⌝ }
@@ -82,7 +90,7 @@ fn command_at(r: &[u8]) -> Command
     ensures function { λ res. ⌜ res .function ≡ decode (now (r .entry)) .device .command .function ⌝ }
     ensures fill { λ res. ⌜ asFill (res .fill) ≡ decode (now (r .entry)) .device .command .fill ⌝ }
 {
-    let code = wire::u16_at(r, 20);
+    let code = code_at(r);
     let action = wire::u16_at(r, 22);
     let function = wire::u16_at(r, 24);
     let fill = fill_at(r);
@@ -95,7 +103,7 @@ fn command_at(r: &[u8]) -> Command
 }
 
 // The settings. The interval's state stands in the temperature table.
-fn settings_at(r: &[u8]) -> Settings
+pub fn settings_at(r: &[u8]) -> Settings
     requires { ⌜ length (now r) ≡ recordSize ⌝ }
     ensures { λ res. ⌜ asSettings res ≡ decode (now (r .entry)) .device .settings ⌝ }
 {
@@ -142,19 +150,27 @@ pub fn stage_at(r: &[u8], i: usize) -> Stage
     stage_of(wire::u8_at(r, 72 + 24 * i))
 }
 
+// The transfer that port i has pending.
+pub fn transfer_at(r: &[u8], i: usize) -> Transfer
+    requires { ⌜ (length (now r) ≡ recordSize) × (i < 4) ⌝ }
+    ensures { λ res. ⌜ asTransfer res ≡ transferAt (now (r .entry)) i ⌝ }
+{
+    let at = 72 + 24 * i;
+    transfer_of(
+        wire::u8_at(r, at + 1),
+        wire::u64_at(r, at + 8),
+        wire::u64_at(r, at + 16),
+    )
+}
+
 // Slot i.
 fn slot_at(r: &[u8], i: usize) -> Slot
     requires { ⌜ (length (now r) ≡ recordSize) × (i < 4) ⌝ }
     ensures stage { λ res. ⌜ asStage (res .stage) ≡ stageAt (now (r .entry)) i ⌝ }
     ensures pending { λ res. ⌜ asTransfer (res .pending) ≡ transferAt (now (r .entry)) i ⌝ }
 {
-    let at = 72 + 24 * i;
     let stage = stage_at(r, i);
-    let pending = transfer_of(
-        wire::u8_at(r, at + 1),
-        wire::u64_at(r, at + 8),
-        wire::u64_at(r, at + 16),
-    );
+    let pending = transfer_at(r, i);
     Slot { stage, pending }
 }
 

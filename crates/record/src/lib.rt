@@ -2,9 +2,13 @@
 mod codec;
 mod device;
 
+pub use codec::code_at;
 pub use codec::decode;
+pub use codec::fill_at;
 pub use codec::native_at;
+pub use codec::settings_at;
 pub use codec::stage_at;
+pub use codec::transfer_at;
 pub use device::Command;
 pub use device::Device;
 pub use device::Feature;

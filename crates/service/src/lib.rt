@@ -5,3 +5,14 @@ mod images;
 mod owner;
 mod ports;
 mod works;
+
+pub use images::sct_power_on;
+pub use images::sct_save;
+pub use owner::sct_lock;
+pub use owner::sct_sample;
+pub use owner::sct_set_visible;
+pub use owner::sct_unlock;
+pub use ports::sct_give;
+pub use ports::sct_serve;
+pub use ports::sct_take;
+pub use works::sct_work;

@@ -1,27 +1,13 @@
--- The transfers of four slots, one by one: what is asked of their list is asked of each.
-use mathlib.Core.Path.{_≡_, sym, ap, _∙_}
-use mathlib.Core.Bool.{Bool, _&&_, and-true}
+-- The last command with the transfers of four ports: what is asked of their list is asked of each.
+use mathlib.Core.Path.{_≡_, refl, sym, ap, ap₂}
+use mathlib.Core.Bool.{Bool, true, false, _&&_, and-true}
 use Prim.Native.Nat.{ℕ, _+_}
 use native.Mathlib.Omega.{arith}
 use mathlib.Core.List.{List, [], _∷_}
-use lib.ListN.{length, getD}
-use Rattle.model.specs.Device.{Transfer, none, table, fillData}
-use Rattle.model.specs.Valid.{pendingCount}
-use Rattle.store.specs.Sound.{transferSound, pendingSound}
-use Rattle.store.proofs.RecordLaws.{four-back}
-use Rattle.record.specs.Meaning.{asTransfer, pendingOf}
-use Rattle.record.specs.declared.device as code
-
--- slot i's transfer; x stands for a slot past the end
-abbrev pub transferIn : List code.Slot.Slot → code.Slot.Slot → ℕ → Transfer
-transferIn l x i = asTransfer (getD l i x .pending)
-
-pub pending-sound-four : (v : ℕ) (l : List code.Slot.Slot) (x : code.Slot.Slot) → length l ≡ 4
-    → (transferSound v (transferIn l x 0) && (transferSound v (transferIn l x 1) && (transferSound v (transferIn l x 2) && transferSound v (transferIn l x 3)))) ≡ pendingSound v (pendingOf l)
-pending-sound-four v l x e =
-    ap (λ (b : Bool). transferSound v (transferIn l x 0) && (transferSound v (transferIn l x 1) && (transferSound v (transferIn l x 2) && b)))
-    (sym (and-true (transferSound v (transferIn l x 3))))
-    ∙ ap (λ (s : List code.Slot.Slot). pendingSound v (pendingOf s)) (four-back l x e)
+use lib.Dec.{leb}
+use Rattle.model.specs.Device.{Transfer, none, table, fillData, Command}
+use Rattle.model.specs.Valid.{pendingCount, pendingLimit}
+use Rattle.store.specs.Sound.{fillSound, transferSound, pendingSound, commandSound}
 
 -- one more transfer counts for itself
 count-more : (t : Transfer) (ts : List Transfer) → pendingCount (t ∷ ts) ≡ pendingCount (t ∷ []) + pendingCount ts
@@ -29,11 +15,25 @@ count-more none ts = omega arith
 count-more table ts = omega arith
 count-more (fillData first end) ts = omega arith
 
-pub pending-count-four : (l : List code.Slot.Slot) (x : code.Slot.Slot) → length l ≡ 4
-    → pendingCount (transferIn l x 0 ∷ []) + pendingCount (transferIn l x 1 ∷ []) + pendingCount (transferIn l x 2 ∷ []) + pendingCount (transferIn l x 3 ∷ []) ≡ pendingCount (pendingOf l)
-pending-count-four l x e =
-    sum (transferIn l x 0) (transferIn l x 1) (transferIn l x 2) (transferIn l x 3)
-    ∙ ap (λ (s : List code.Slot.Slot). pendingCount (pendingOf s)) (four-back l x e)
+module _ (v : ℕ) (a b c d : Transfer) where
+  sound-four : (transferSound v a && (transferSound v b && (transferSound v c && transferSound v d))) ≡ pendingSound v (a ∷ b ∷ c ∷ d ∷ [])
+  sound-four = ap (λ (x : Bool). transferSound v a && (transferSound v b && (transferSound v c && x))) (sym (and-true (transferSound v d)))
+
+  count-four : pendingCount (a ∷ []) + pendingCount (b ∷ []) + pendingCount (c ∷ []) + pendingCount (d ∷ []) ≡ pendingCount (a ∷ b ∷ c ∷ d ∷ [])
+  count-four = omega (arith, count-more a (b ∷ c ∷ d ∷ []), count-more b (c ∷ d ∷ []), count-more c (d ∷ []))
+
+  pub pending-four : (limit : ℕ)
+      → ((transferSound v a && (transferSound v b && (transferSound v c && transferSound v d)))
+      && leb (pendingCount (a ∷ []) + pendingCount (b ∷ []) + pendingCount (c ∷ []) + pendingCount (d ∷ [])) limit)
+      ≡ (pendingSound v (a ∷ b ∷ c ∷ d ∷ []) && leb (pendingCount (a ∷ b ∷ c ∷ d ∷ [])) limit)
+  pending-four limit = ap₂ (λ (x : Bool) (n : ℕ). x && leb n limit) sound-four count-four
+
+-- the fill, and what is pending beside it
+pub command-tests : (v : ℕ) (c : Command)
+    → (fillSound v (c .code) (c .fill) && (pendingSound v (c .pending) && leb (pendingCount (c .pending)) (pendingLimit (c .fill)))) ≡ commandSound v c
+unfolding commandSound
+command-tests v c = go (fillSound v (c .code) (c .fill)) (pendingSound v (c .pending)) (leb (pendingCount (c .pending)) (pendingLimit (c .fill)))
   where
-    sum : (a b c d : Transfer) → pendingCount (a ∷ []) + pendingCount (b ∷ []) + pendingCount (c ∷ []) + pendingCount (d ∷ []) ≡ pendingCount (a ∷ b ∷ c ∷ d ∷ [])
-    sum a b c d = omega (arith, count-more a (b ∷ c ∷ d ∷ []), count-more b (c ∷ d ∷ []), count-more c (d ∷ []))
+    go : (x y z : Bool) → (x && (y && z)) ≡ (x && y && z)
+    go true y z = refl
+    go false y z = refl

@@ -1,16 +1,18 @@
-// The clauses of document 01 on what a record says, as numbers and structs.
-use record::Command;
-use record::Device;
+// The clauses of document 01 on what a record says: read part by part, and judged as numbers and small structs.
 use record::Fill;
 use record::Settings;
-use record::Slot;
 use record::Transfer;
 ghost use mathlib.Core.Path.{_≡_};
+ghost use mathlib.Core.Bool.{_&&_};
 ghost use mathlib.Core.List.{[], _∷_};
 ghost use Prim.Native.Nat.{_≤_};
+ghost use lib.ListN.{length};
+ghost use lib.Dec.{leb};
 ghost use Rattle.model.specs.Valid.{pendingCount, pendingLimit};
+ghost use Rattle.store.specs.Areas.{recordSize};
+ghost use Rattle.store.specs.Record.{decode};
 ghost use Rattle.store.specs.Sound.{fillSound, transferSound, pendingSound, commandSound, timerSound, settingsSound, deviceSound};
-ghost use Rattle.record.specs.Meaning.{asTransfer, asFill, asSettings, pendingOf, asCommand, asDevice};
+ghost use Rattle.record.specs.Meaning.{asTransfer, asFill, asSettings};
 
 // "if a fill runs, first ≤ next < end ≤ V"; "the stored code is FFFFh exactly while a fill runs"
 fn fill_sound(visible: u64, code: u16, fill: Fill) -> bool
@@ -57,52 +59,28 @@ fn limit_of(fill: Fill) -> u8
     }
 }
 
-fn slot_sound(visible: u64, s: Slot) -> bool
-    ensures { λ res. ⌜ res ≡ transferSound visible (asTransfer (s .pending)) ⌝ }
+// "an owed fill has first < end ≤ V"; "a fill and an owed transfer never coexist", and at most one is owed: what the four ports have
+// pending, beside a fill that leaves room for `limit`.
+fn pending_sound(r: &[u8], visible: u64, limit: u8) -> bool
+    requires { ⌜ length (now r) ≡ recordSize ⌝ }
+    ensures { λ res. ⌜ res ≡ (pendingSound visible (decode (now (r .entry)) .device .command .pending) && leb (pendingCount (decode (now (r .entry)) .device .command .pending)) limit) ⌝ }
 {
-    let t = s.pending;
-    transfer_sound(visible, t)
-}
-
-fn slot_count(s: Slot) -> u8
-    ensures { λ res. ⌜ res ≡ pendingCount (asTransfer (s .pending) ∷ []) ⌝ }
-    ensures small { λ res. ⌜ res ≤ 1 ⌝ }
-{
-    let t = s.pending;
-    count_of(t)
-}
-
-// The transfers of the four slots.
-fn pending_sound(visible: u64, slots: [Slot; 4]) -> bool
-    ensures { λ res. ⌜ res ≡ pendingSound visible (pendingOf slots) ⌝ }
-{
-    let a = slots[0];
-    let b = slots[1];
-    let c = slots[2];
-    let d = slots[3];
-    slot_sound(visible, a)
-        & (slot_sound(visible, b) & (slot_sound(visible, c) & slot_sound(visible, d)))
-}
-
-// How many of the four slots have a transfer pending.
-fn pending_count(slots: [Slot; 4]) -> u8
-    ensures { λ res. ⌜ res ≡ pendingCount (pendingOf slots) ⌝ }
-{
-    let a = slots[0];
-    let b = slots[1];
-    let c = slots[2];
-    let d = slots[3];
-    slot_count(a) + slot_count(b) + slot_count(c) + slot_count(d)
+    let a = record::transfer_at(r, 0);
+    let b = record::transfer_at(r, 1);
+    let c = record::transfer_at(r, 2);
+    let d = record::transfer_at(r, 3);
+    (transfer_sound(visible, a)
+        & (transfer_sound(visible, b) & (transfer_sound(visible, c) & transfer_sound(visible, d))))
+        & (count_of(a) + count_of(b) + count_of(c) + count_of(d) <= limit)
 }
 
 // The last command, with what the ports have pending.
-fn command_sound(visible: u64, command: Command, slots: [Slot; 4]) -> bool
-    ensures { λ res. ⌜ res ≡ commandSound visible (asCommand command slots) ⌝ }
+fn command_sound(r: &[u8], visible: u64) -> bool
+    requires { ⌜ length (now r) ≡ recordSize ⌝ }
+    ensures { λ res. ⌜ res ≡ commandSound visible (decode (now (r .entry)) .device .command) ⌝ }
 {
-    let fill = command.fill;
-    fill_sound(visible, command.code, fill)
-        & pending_sound(visible, slots)
-        & (pending_count(slots) <= limit_of(fill))
+    let fill = record::fill_at(r);
+    fill_sound(visible, record::code_at(r), fill) & pending_sound(r, visible, limit_of(fill))
 }
 
 // "each timer is 0 or at least 10"
@@ -127,17 +105,16 @@ fn settings_sound(s: Settings) -> bool
 }
 
 // "1 ≤ V ≤ N ≤ 65,536"; "minutes counted are below it, the history index is at most 477". The history is not asked.
-pub fn device_sound(d: Device) -> bool
-    ensures { λ res. ⌜ res ≡ deviceSound (asDevice d []) ⌝ }
+pub fn device_sound(r: &[u8]) -> bool
+    requires { ⌜ length (now r) ≡ recordSize ⌝ }
+    ensures { λ res. ⌜ res ≡ deviceSound (decode (now (r .entry)) .device) ⌝ }
 {
-    let interval = d.settings.interval.state;
-    let minutes = d.thermal.minutes;
-    let index = d.thermal.index;
-    let command = d.command;
-    let settings = d.settings;
-    let slots = d.slots;
-    ((1 <= d.visible) & (d.visible <= d.native) & (d.native <= 65536))
-        & command_sound(d.visible, command, slots)
+    let native = record::native_at(r);
+    let visible = wire::u64_at(r, 8);
+    let settings = record::settings_at(r);
+    let interval = settings.interval.state;
+    ((1 <= visible) & (visible <= native) & (native <= 65536))
+        & command_sound(r, visible)
         & settings_sound(settings)
-        & ((minutes < interval) & (index < 478))
+        & ((wire::u16_at(r, 38) < interval) & (wire::u16_at(r, 544) < 478))
 }

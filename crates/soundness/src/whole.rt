@@ -5,7 +5,6 @@ use crate::places::flags_named;
 use crate::places::slots_named;
 use crate::places::spare_zero;
 use crate::table::table_fixed;
-use record::decode;
 ghost use mathlib.Core.Path.{_≡_};
 ghost use Rattle.store.specs.Sound.{sound};
 
@@ -16,11 +15,10 @@ pub fn sound(r: &[u8]) -> bool
     if r.len() != 1024 {
         return false;
     }
-    let d = decode(r);
     spare_zero(r)
         & flags_named(r)
         & fill_named(r)
         & slots_named(r)
         & table_fixed(r, 512)
-        & device_sound(d)
+        & device_sound(r)
 }

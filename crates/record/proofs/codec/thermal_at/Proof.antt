@@ -22,13 +22,19 @@ u16-at-requires-2 c κs = search needs
 
 returns : tie.Need-returns
 unfolding decode
-returns c = λ i.
+returns c =
+    let at-u16-at = c .before in
+    let at-u8-at3 = at-u16-at .before in
+    let at-u8-at2 = at-u8-at3 .before in
+    let at-u8-at = at-u8-at2 .before in
+    let entry = at-u8-at .before .before in
+    λ i.
     record {
-      now = c .before .before .before .before .u8-at .ensures i;
-      cycleMaximum = c .before .before .before .u8-at2 .ensures i;
-      lifeMaximum = c .before .before .u8-at3 .ensures i;
-      history = historyOf (c .before .before .before .before .before .before .args .r .now);
-      index = c .before .u16-at .ensures i;
+      now = at-u8-at .u8-at .ensures i;
+      cycleMaximum = at-u8-at2 .u8-at2 .ensures i;
+      lifeMaximum = at-u8-at3 .u8-at3 .ensures i;
+      history = historyOf (entry .args .r .now);
+      index = at-u16-at .u16-at .ensures i;
       minutes = c .u16-at2 .ensures i;
     }
 

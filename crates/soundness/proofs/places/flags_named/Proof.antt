@@ -22,11 +22,15 @@ flag-named-requires-5 c κs = search needs
 returns : tie.Need-returns
 unfolding flagsNamed
 returns c =
+    let at-flag-named4 = c .before in
+    let at-flag-named3 = at-flag-named4 .before in
+    let at-flag-named2 = at-flag-named3 .before in
+    let at-flag-named = at-flag-named2 .before in
     rw (
-      c .before .before .before .before .flag-named .ensures,
-      c .before .before .before .flag-named2 .ensures,
-      c .before .before .flag-named3 .ensures,
-      c .before .flag-named4 .ensures,
+      at-flag-named .flag-named .ensures,
+      at-flag-named2 .flag-named2 .ensures,
+      at-flag-named3 .flag-named3 .ensures,
+      at-flag-named4 .flag-named4 .ensures,
       c .flag-named5 .ensures,
     )
 

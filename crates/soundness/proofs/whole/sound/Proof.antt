@@ -1,7 +1,6 @@
 -- `soundness::whole::sound` meets its contract.
 use native.Mathlib.Omega.{arith}
 use borrow.Author.Tests.{ne-eqb}
-use Rattle.wire.specs.Bytes.{Bytes}
 use Rattle.store.specs.Sound.{sound}
 use Rattle.soundness.proofs.SoundnessLaws.{tests-sound}
 use borrow.Author.Needs.{needs}
@@ -11,9 +10,6 @@ use Rattle.soundness.proofs.whole.sound.Tie as tie
 returns : tie.Need-returns
 unfolding sound
 returns c = rw (ne-eqb _ _ (c .if1 .taken))
-
-decode-requires : tie.Need-decode-requires
-decode-requires c κs = search needs
 
 spare-zero-requires : tie.Need-spare-zero-requires
 spare-zero-requires c κs = search needs
@@ -40,28 +36,18 @@ returns-2 c =
     let at-fill-named = at-slots-named .before in
     let at-flags-named = at-fill-named .before in
     let at-spare-zero = at-flags-named .before in
-    let at-decode = at-spare-zero .before in
-    let at-if1 = at-decode .before in
-    let at-shared-slice-known = at-if1 .before in
-    let entry = at-shared-slice-known .before in
+    let at-if1 = at-spare-zero .before in
+    let known = at-if1 .before in
+    let entry = known .before in
     let r = entry .args .r .now in
-    let bytes : Bytes r = λ i. omega (arith, at-shared-slice-known .shared-slice-known .given i) in
-    rw (
-      at-spare-zero .spare-zero .ensures,
-      at-flags-named .flags-named .ensures,
-      at-fill-named .fill-named .ensures,
-      at-slots-named .slots-named .ensures,
-      at-table-fixed .table-fixed .ensures,
-      c .device-sound .ensures,
-    )
-    (tests-sound r (at-decode .decode .result) bytes (at-if1 .if1 .left) (at-decode .decode .ensures))
+    rw (at-spare-zero .spare-zero .ensures, at-flags-named .flags-named .ensures, at-fill-named .fill-named .ensures, at-slots-named .slots-named .ensures, at-table-fixed .table-fixed .ensures, c .device-sound .ensures)
+    (tests-sound r (λ i. omega (arith, known .shared-slice-known .given i)) (at-if1 .if1 .left))
 
 pub sound-spec : {M : Type 1} → statement M
 sound-spec =
     tie.close
     (tie.spec
     returns
-    decode-requires
     spare-zero-requires
     flags-named-requires
     fill-named-requires

@@ -14,7 +14,10 @@ kept-requires-3 : tie.Need-kept-requires-3
 kept-requires-3 c κs = search needs
 
 returns : tie.Need-returns
-returns c = λ i. record { readTimer = powerOnTimer; writeTimer = powerOnTimer; writeCache = (c .before .before .kept .ensures) i; reordering = (c .before .kept2 .ensures) i; logInterval = (c .kept3 .ensures) i }
+returns c =
+    let at-kept2 = c .before in
+    let at-kept = at-kept2 .before in
+    λ i. record { readTimer = powerOnTimer; writeTimer = powerOnTimer; writeCache = (at-kept .kept .ensures) i; reordering = (at-kept2 .kept2 .ensures) i; logInterval = (c .kept3 .ensures) i }
 
 pub power-on-spec : {M : Type 1} → statement M
 power-on-spec = tie.close (tie.spec kept-requires kept-requires-2 kept-requires-3 returns)

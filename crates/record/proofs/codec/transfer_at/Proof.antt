@@ -1,18 +1,15 @@
--- `record::codec::slot_at` meets its contract.
+-- `record::codec::transfer_at` meets its contract.
 use mathlib.Core.Path.{_∙_}
 use Rattle.store.specs.Record.{transferOf}
 use borrow.Author.Needs.{needs}
-use Rattle.record.proofs.codec.slot_at.Statement.{statement}
-use Rattle.record.proofs.codec.slot_at.Tie as tie
+use Rattle.record.proofs.codec.transfer_at.Statement.{statement}
+use Rattle.record.proofs.codec.transfer_at.Tie as tie
 
 mul-at : tie.Need-mul-at
 mul-at c = search needs
 
 add-at : tie.Need-add-at
 add-at c = search needs
-
-stage-at-requires : tie.Need-stage-at-requires
-stage-at-requires c κs = search needs
 
 add-u8-at : tie.Need-add-u8-at
 add-u8-at c = search needs
@@ -36,20 +33,14 @@ transfer-of-requires : tie.Need-transfer-of-requires
 transfer-of-requires c κs = search needs
 
 returns : tie.Need-returns
-returns c =
-    let at-u64-at2 = c .before in
-    let at-u64-at = at-u64-at2 .before in
-    let at-u8-at = at-u64-at .before in
-    let at-stage-at = at-u8-at .before in
-    (at-stage-at .stage-at .ensures, c .transfer-of .ensures ∙ (λ i. transferOf (at-u8-at .u8-at .ensures i) (at-u64-at .u64-at .ensures i) (at-u64-at2 .u64-at2 .ensures i)))
+returns c = c .transfer-of .ensures ∙ (λ i. transferOf (c .before .before .before .u8-at .ensures i) (c .before .before .u64-at .ensures i) (c .before .u64-at2 .ensures i))
 
-pub slot-at-spec : {M : Type 1} → statement M
-slot-at-spec =
+pub transfer-at-spec : {M : Type 1} → statement M
+transfer-at-spec =
     tie.close
     (tie.spec
     mul-at
     add-at
-    stage-at-requires
     add-u8-at
     u8-at-requires
     add-u64-at

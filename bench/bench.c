@@ -1,0 +1,351 @@
+/*
+ * bench.c - what the entries cost, beside the reference built by the same
+ * compiler. Both are measured in turn within each round, so that a change of
+ * the machine's pace meets both; the median of the rounds is printed.
+ *
+ *   bench [rounds]      31 rounds if none are given
+ *
+ * "Exchange" is take, serve and give in a row. The reference opens the record
+ * into a struct, decides, and writes it back: an honest, plain C program.
+ */
+#define _POSIX_C_SOURCE 200809L
+
+#include <stdio.h>
+#include <stdlib.h>
+#include <string.h>
+#include <time.h>
+
+#include "bytes.h"
+#include "implementation.h"
+#include "layout.h"
+#include "random.h"
+#include "request.h"
+
+enum { SECTORS = 4096, MOST_ROUNDS = 101 };
+
+static uint8_t  record[SCT_RECORD_BYTES];
+static uint8_t  area[SCT_PRIVATE_BYTES];
+static uint8_t  disk[(size_t)SECTORS * SCT_SECTOR_BYTES];
+static uint8_t  request[SCT_MAILBOX_BYTES], second[SCT_MAILBOX_BYTES], reply[SCT_MAILBOX_BYTES];
+static uint8_t  image[SCT_IMAGE_LIMIT];
+static uint64_t image_used;
+
+static double nanoseconds_now(void)
+{
+    struct timespec t;
+
+    clock_gettime(CLOCK_MONOTONIC, &t);
+    return (double)t.tv_sec * 1e9 + (double)t.tv_nsec;
+}
+
+static void expect_done(uint32_t answer)
+{
+    if (answer == SCT_DONE)
+        return;
+    fprintf(stderr, "a step that is measured answers %u\n", answer);
+    exit(1);
+}
+
+/* ---- What is measured: each runs `times` and gives nanoseconds for one --------- */
+
+static void start(const struct implementation *code)
+{
+    expect_done(code->power_on(record, sizeof record, area, sizeof area, disk, sizeof disk, image, sizeof image, 0));
+}
+
+static void exchange(const struct implementation *code, const uint8_t *mail)
+{
+    expect_done(code->take(record, sizeof record, 1, mail, SCT_MAILBOX_BYTES, area, sizeof area));
+    expect_done(code->serve(record, sizeof record, 1, area, sizeof area, disk, sizeof disk));
+    expect_done(code->give(record, sizeof record, 1, reply, sizeof reply, area, sizeof area));
+}
+
+static double time_exchange(const struct implementation *code, unsigned times)
+{
+    double from = nanoseconds_now();
+
+    for (unsigned i = 0; i < times; i++)
+        exchange(code, request);
+    return (nanoseconds_now() - from) / times;
+}
+
+static double run_status(const struct implementation *code, unsigned times)
+{
+    start(code);
+    build_status(request, SMART);
+    return time_exchange(code, times);
+}
+
+static double run_key(const struct implementation *code, unsigned times)
+{
+    start(code);
+    build_key(request, SMART, 3, 1, 1, 70, 0);
+    return time_exchange(code, times);
+}
+
+static double run_fill_key(const struct implementation *code, unsigned times)
+{
+    start(code);
+    build_fill(request, SMART, 1, 0, 0, 0x12345678);
+    return time_exchange(code, times);
+}
+
+static double run_refused_key(const struct implementation *code, unsigned times)
+{
+    start(code);
+    build_fill(request, SMART, 1, 1, UINT64_MAX, 0);
+    return time_exchange(code, times);
+}
+
+/* The key and the transfer, two exchanges. */
+static double run_table(const struct implementation *code, unsigned times)
+{
+    double from;
+
+    start(code);
+    build_key(request, SMART, 5, 1, 2, 0, 0);
+    build_data_read(second, SMART);
+    from = nanoseconds_now();
+    for (unsigned i = 0; i < times; i++) {
+        exchange(code, request);
+        exchange(code, second);
+    }
+    return (nanoseconds_now() - from) / times;
+}
+
+static double run_read(const struct implementation *code, unsigned times)
+{
+    start(code);
+    build_sector(request, false, 77, 1);
+    return time_exchange(code, times);
+}
+
+static double run_write(const struct implementation *code, unsigned times)
+{
+    start(code);
+    build_sector(request, true, 77, 1);
+    return time_exchange(code, times);
+}
+
+/* All sectors in calls of n; the key that starts the fill is not counted. */
+static double fill_in_pieces(const struct implementation *code, unsigned times, uint32_t n)
+{
+    double spent = 0;
+
+    start(code);
+    build_fill(request, SMART, 1, 0, 0, 0x12345678);
+    for (unsigned i = 0; i < times; i++) {
+        double from;
+
+        exchange(code, request);
+        from = nanoseconds_now();
+        for (uint32_t written = 0; written < SECTORS; ) {
+            uint64_t result = code->work(record, sizeof record, area, sizeof area, disk, sizeof disk, n);
+
+            expect_done(sct_work_answer(result));
+            written += sct_work_sectors(result);
+        }
+        spent += nanoseconds_now() - from;
+    }
+    return spent / times / SECTORS;
+}
+
+static double run_work_all(const struct implementation *code, unsigned times)
+{
+    return fill_in_pieces(code, times, SECTORS);
+}
+
+static double run_work_one(const struct implementation *code, unsigned times)
+{
+    return fill_in_pieces(code, times, 1);
+}
+
+/* No entry at all: what the copies alone cost. */
+static double run_copies(const struct implementation *code, unsigned times)
+{
+    static uint8_t sector[SCT_SECTOR_BYTES];
+    double from = nanoseconds_now();
+
+    (void)code;
+    for (unsigned i = 0; i < times; i++) {
+        for (size_t k = 0; k < SECTORS; k++)
+            memcpy(disk + k * SCT_SECTOR_BYTES, sector, SCT_SECTOR_BYTES);
+        __asm__ volatile("" : : : "memory");    /* they are not for nothing */
+    }
+    return (nanoseconds_now() - from) / times / SECTORS;
+}
+
+static void make_image(unsigned entries)
+{
+    struct random r = random_for(5, 5);
+
+    for (uint32_t k = 1; k <= entries; k++)
+        random_entry(&r, image, k, SECTORS);
+    image_used = (uint64_t)SCT_ENTRY_BYTES * entries;
+}
+
+static double time_power_on(const struct implementation *code, unsigned times, unsigned entries)
+{
+    double from;
+
+    make_image(entries);
+    from = nanoseconds_now();
+    for (unsigned i = 0; i < times; i++)
+        expect_done(code->power_on(record, sizeof record, area, sizeof area, disk, sizeof disk,
+                                   image, sizeof image, image_used));
+    return (nanoseconds_now() - from) / times;
+}
+
+static double run_power_on_0(const struct implementation *code, unsigned times)
+{
+    return time_power_on(code, times, 0);
+}
+
+static double run_power_on_1(const struct implementation *code, unsigned times)
+{
+    return time_power_on(code, times, 1);
+}
+
+static double run_power_on_117(const struct implementation *code, unsigned times)
+{
+    return time_power_on(code, times, 117);
+}
+
+static double time_save(const struct implementation *code, unsigned times, unsigned entries)
+{
+    double from;
+
+    start(code);
+    make_image(entries);
+    from = nanoseconds_now();
+    for (unsigned i = 0; i < times; i++)
+        expect_done(code->save(record, sizeof record, image, sizeof image, image_used));
+    return (nanoseconds_now() - from) / times;
+}
+
+static double run_save_first(const struct implementation *code, unsigned times)
+{
+    return time_save(code, times, 0);
+}
+
+static double run_save_last(const struct implementation *code, unsigned times)
+{
+    return time_save(code, times, 116);
+}
+
+static double run_lock(const struct implementation *code, unsigned times)
+{
+    double from;
+
+    start(code);
+    from = nanoseconds_now();
+    for (unsigned i = 0; i < times; i++)
+        expect_done(code->lock(record, sizeof record));
+    return (nanoseconds_now() - from) / times;
+}
+
+static double run_set_visible(const struct implementation *code, unsigned times)
+{
+    double from;
+
+    start(code);
+    from = nanoseconds_now();
+    for (unsigned i = 0; i < times; i++)
+        expect_done(code->set_visible(record, sizeof record, SECTORS - i % 2));
+    return (nanoseconds_now() - from) / times;
+}
+
+static double run_sample(const struct implementation *code, unsigned times)
+{
+    double from;
+
+    start(code);
+    from = nanoseconds_now();
+    for (unsigned i = 0; i < times; i++)
+        expect_done(code->sample(record, sizeof record, (uint8_t)i));
+    return (nanoseconds_now() - from) / times;
+}
+
+/* ---- The table ------------------------------------------------------------------ */
+
+static const struct {
+    const char *name;
+    double    (*run)(const struct implementation *, unsigned);
+    unsigned    times;
+} measures[] = {
+    { "exchange: status read",                run_status,       4000 },
+    { "exchange: key, timer set",             run_key,          4000 },
+    { "exchange: key, pattern fill",          run_fill_key,     4000 },
+    { "exchange: key, fill refused",          run_refused_key,  4000 },
+    { "two exchanges: table",                 run_table,        2000 },
+    { "exchange: sector read",                run_read,         4000 },
+    { "exchange: sector write",               run_write,        4000 },
+    { "work, a sector, 4096 in a call",       run_work_all,        2 },
+    { "work, a sector, one in a call",        run_work_one,        1 },
+    { "memcpy of 512 bytes, a sector",        run_copies,          2 },
+    { "lock",                                 run_lock,         8000 },
+    { "set V",                                run_set_visible,  8000 },
+    { "sample",                               run_sample,       8000 },
+    { "save, first entry",                    run_save_first,   8000 },
+    { "save, 117th entry",                    run_save_last,     300 },
+    { "power-on, no entry",                   run_power_on_0,   8000 },
+    { "power-on, 1 entry",                    run_power_on_1,   8000 },
+    { "power-on, 117 entries",                run_power_on_117,  300 },
+};
+
+enum { MEASURES = sizeof measures / sizeof measures[0] };
+
+static double results[MEASURES][2][MOST_ROUNDS];
+
+static int compare(const void *a, const void *b)
+{
+    double x = *(const double *)a, y = *(const double *)b;
+
+    return (x > y) - (x < y);
+}
+
+static double median(double *values, unsigned count)
+{
+    qsort(values, count, sizeof *values, compare);
+    return values[count / 2];
+}
+
+static void run_rounds(unsigned rounds)
+{
+    for (unsigned m = 0; m < MEASURES; m++)     /* to get warm */
+        measures[m].run(m % 2 ? &archive : &reference, 1);
+    for (unsigned r = 0; r < rounds; r++) {
+        for (unsigned m = 0; m < MEASURES; m++) {
+            unsigned first = r % 2;             /* who comes first changes */
+
+            for (unsigned i = 0; i < 2; i++) {
+                unsigned side = i ^ first;
+
+                results[m][side][r] = measures[m].run(side == 0 ? &archive : &reference, measures[m].times);
+            }
+        }
+    }
+}
+
+int main(int count, char **words)
+{
+    unsigned rounds = count > 1 ? (unsigned)strtoul(words[1], NULL, 0) : 31;
+
+    if (rounds < 1 || rounds > MOST_ROUNDS) {
+        fprintf(stderr, "usage: %s [rounds, 1 to %d]\n", words[0], MOST_ROUNDS);
+        return 2;
+    }
+    run_rounds(rounds);
+    printf("nanoseconds, median of %u rounds\n", rounds);
+    printf("%-36s %10s %10s %8s\n", "", "archive", "reference", "ratio");
+    for (unsigned m = 0; m < MEASURES; m++) {
+        double a = median(results[m][0], rounds);
+        double b = median(results[m][1], rounds);
+
+        if (measures[m].run == run_copies)
+            printf("%-36s %10.1f\n", measures[m].name, a < b ? a : b);
+        else
+            printf("%-36s %10.1f %10.1f %8.2f\n", measures[m].name, a, b, a / b);
+    }
+    return 0;
+}

@@ -1,0 +1,180 @@
+/*
+ * sct_disk.h - one virtual ATA disk with SMART Command Transport (SCT), for a
+ * system management handler. docs/interface.md says how it is used.
+ *
+ * The caller owns all memory. The library has no state of its own, allocates
+ * nothing and returns for every input. Of the C library it needs memset.
+ *
+ *   record        1,024 bytes: the device. Opaque; power-on writes it first.
+ *   private area  2,624 bytes: four request slots and the fill sector. Opaque;
+ *                 no core may see it.
+ *   disk          1 to 65,536 sectors. Its length at power-on gives the native
+ *                 size N. The visible size V is 1 to N.
+ *   mailbox       528 bytes, one for each port: 16 of registers, then a sector.
+ *   image         any length. Its first `used` bytes are saved entries of 560.
+ *
+ * What the caller sees to:
+ *   - A pointer is good for as many bytes as its length says. With length 0 it
+ *     may be NULL. No alignment is needed.
+ *   - The buffers of one call do not overlap.
+ *   - One call at a time over one record.
+ *   - Nobody else writes record, private area and disk, or the image during a
+ *     call. The mailbox alone may be rewritten by others during the call:
+ *     sct_take copies it once into the port's slot, and everything after goes
+ *     by the slot; sct_give only writes it. No other function has a mailbox.
+ *
+ * All else is judged here: any port, number and length, and any bytes. Where
+ * the answer is not 0, no byte of any buffer has changed.
+ *
+ * The code is for x86-64 with the System V calling convention. It uses SSE
+ * registers, which a handler that interrupts other code saves, and neither x87
+ * nor AVX.
+ */
+#ifndef SCT_DISK_H
+#define SCT_DISK_H
+
+#include <stddef.h>
+#include <stdint.h>
+
+#ifdef __cplusplus
+extern "C" {
+#endif
+
+/* ---- Sizes --------------------------------------------------------------- */
+
+#define SCT_PORTS            4u      /* ports are 0 to 3 */
+#define SCT_SECTOR_BYTES     512u
+#define SCT_REGISTER_BYTES   16u
+#define SCT_MAILBOX_BYTES    528u    /* registers, then a sector */
+#define SCT_PRIVATE_BYTES    2624u   /* four slots, then the fill sector */
+#define SCT_RECORD_BYTES     1024u
+#define SCT_ENTRY_BYTES      560u    /* one saved entry */
+#define SCT_ENTRIES_LIMIT    117u
+#define SCT_IMAGE_LIMIT      65520u  /* 117 entries */
+#define SCT_NATIVE_LIMIT     65536u  /* sectors */
+
+/* ---- Answers ------------------------------------------------------------- */
+
+/* Where several apply, the first of 4, 2, 1, 5, 3, 6, 7, 8 is given. */
+enum sct_answer {
+    SCT_DONE       = 0,
+    SCT_PORT       = 1,  /* port above 3 */
+    SCT_LENGTH     = 2,  /* a buffer is not of its size, or used exceeds it */
+    SCT_STAGE      = 3,  /* the slot is not in the stage that the step needs */
+    SCT_RECORD     = 4,  /* the record is unsound; so is one of another size */
+    SCT_VALUE      = 5,  /* the V asked for is 0 or above N */
+    SCT_IMAGE      = 6,  /* the image is not readable */
+    SCT_OTHER_DISK = 7,  /* the newest entry is of a disk of another N */
+    SCT_FULL       = 8   /* the image has 117 entries, or no 560 bytes more */
+};
+
+/* ---- A request: take, serve, give ---------------------------------------- */
+
+/*
+ * Copies the mailbox into the port's slot: empty becomes held.
+ * Refusals: 4; 2 mailbox, private area; 1; 3 slot not empty.
+ * Changes: the record, and this slot in the private area.
+ */
+uint32_t sct_take(uint8_t *record, size_t record_length,
+                  uint32_t port,
+                  const uint8_t *mailbox, size_t mailbox_length,
+                  uint8_t *private_area, size_t private_area_length);
+
+/*
+ * Carries out the request in the slot and leaves the reply there: held becomes
+ * answered. A request that the disk refuses (Status 51h) is served: answer 0.
+ * Refusals: 4; 2 private area, disk not N sectors; 1; 3 slot not held.
+ * Changes: the record; this slot, and the fill sector where a fill begins; for
+ * a sector write (34h) one sector below V.
+ */
+uint32_t sct_serve(uint8_t *record, size_t record_length,
+                   uint32_t port,
+                   uint8_t *private_area, size_t private_area_length,
+                   uint8_t *disk, size_t disk_length);
+
+/*
+ * Writes the reply, all 528 bytes, to the mailbox: answered becomes empty.
+ * Refusals: 4; 2 mailbox, private area; 1; 3 slot not answered.
+ * Changes: the record and the mailbox.
+ */
+uint32_t sct_give(uint8_t *record, size_t record_length,
+                  uint32_t port,
+                  uint8_t *mailbox, size_t mailbox_length,
+                  const uint8_t *private_area, size_t private_area_length);
+
+/* ---- The fill in the background ------------------------------------------ */
+
+/*
+ * Writes the next sectors of a running fill, as many as n and what is left
+ * allow; with no fill none. The result has the answer in bits 32 to 63 and the
+ * number of sectors written in bits 0 to 31 (0 where the answer is not 0).
+ * Refusals: 4; 2 private area, disk not N sectors.
+ * Changes: the record, and the sectors written, all below V.
+ */
+uint64_t sct_work(uint8_t *record, size_t record_length,
+                  const uint8_t *private_area, size_t private_area_length,
+                  uint8_t *disk, size_t disk_length,
+                  uint32_t n);
+
+static inline uint32_t sct_work_answer(uint64_t result)
+{
+    return (uint32_t)(result >> 32);
+}
+
+static inline uint32_t sct_work_sectors(uint64_t result)
+{
+    return (uint32_t)(result & 0xFFFFFFFFu);
+}
+
+/* ---- Owner steps --------------------------------------------------------- */
+
+/*
+ * While the disk is locked every request is refused (Status 51h). Lock and
+ * unlock stop a running fill and drop a pending transfer, also where the lock
+ * stays as it was.
+ * Refusals: 4.  Changes: the record.
+ */
+uint32_t sct_lock(uint8_t *record, size_t record_length);
+uint32_t sct_unlock(uint8_t *record, size_t record_length);
+
+/*
+ * Sets the visible size V. Stops a running fill and drops a pending transfer,
+ * also where V stays as it was.
+ * Refusals: 4; 5.  Changes: the record.
+ */
+uint32_t sct_set_visible(uint8_t *record, size_t record_length, uint64_t v);
+
+/*
+ * One temperature sample, once a minute: degrees Celsius in two's complement,
+ * 80h where there is none.
+ * Refusals: 4.  Changes: the record.
+ */
+uint32_t sct_sample(uint8_t *record, size_t record_length, uint8_t reading);
+
+/*
+ * Adds one entry to the image, behind its used length. After answer 0 the used
+ * length is used + 560; the caller keeps that number.
+ * Refusals: 4; 2 used exceeds the image; 6; 7; 8.
+ * Changes: the 560 bytes of the image from used on.
+ */
+uint32_t sct_save(const uint8_t *record, size_t record_length,
+                  uint8_t *image, size_t image_length, uint64_t used);
+
+/*
+ * Starts the device from the newest entry of the image; with used 0 as a new
+ * disk, with V = N. What the record held is not judged. Of the disk only the
+ * length is used.
+ * Refusals: 2 record, private area, disk not 1 to 65,536 whole sectors, used
+ * exceeds the image; 6; 7.
+ * Changes: the record, and the private area, which becomes zeros.
+ */
+uint32_t sct_power_on(uint8_t *record, size_t record_length,
+                      uint8_t *private_area, size_t private_area_length,
+                      const uint8_t *disk, size_t disk_length,
+                      const uint8_t *image, size_t image_length, uint64_t used);
+
+#ifdef __cplusplus
+}
+#endif
+
+#endif /* SCT_DISK_H */

@@ -1,0 +1,893 @@
+#include "generate.h"
+
+#include <string.h>
+
+#include "bytes.h"
+#include "layout.h"
+#include "request.h"
+
+const char *const style_name[STYLES] = {
+    "mixed", "fills", "transfers", "heat", "images", "unruly", "lengths", "records"
+};
+
+/* ---- The queue of planned steps ------------------------------------------- */
+
+/* Adds a step with right lengths and gives it to be completed. */
+static struct step *add(struct list *l, enum entry entry)
+{
+    static struct step surplus;
+    struct step *step = &surplus;   /* a plan that is too long loses its tail */
+
+    if (l->count < QUEUE)
+        step = &l->queue[(l->head + l->count++) % QUEUE];
+    *step = plain_step(l->pair, entry);
+    step->used_now = true;
+    return step;
+}
+
+static void fields_now(const struct list *l, struct record_fields *f)
+{
+    decode_record(f, l->pair->record);
+    if (f->native < 1 || f->native > SCT_NATIVE_LIMIT)      /* junk */
+        f->native = l->pair->sectors;
+    if (f->visible < 1 || f->visible > f->native)
+        f->visible = f->native;
+}
+
+/*
+ * Random numbers are drawn one to a statement: C leaves the order open in which
+ * arguments are evaluated, and a seed must give the same list everywhere.
+ */
+
+/* ---- Numbers --------------------------------------------------------------- */
+
+/* Within 2 of a number where some rule changes; below 0 it is near 2^64. */
+static uint64_t near_limit(struct random *r, const struct record_fields *f)
+{
+    const uint64_t limits[] = {
+        0, f->visible, f->visible, f->native, f->next, f->end, 0x100, 0x10000, 0x100000000,
+        (uint64_t)1 << 48, (uint64_t)1 << 63
+    };
+
+    uint64_t limit = PICK(r, limits);
+
+    return limit + below(r, 5) - 2;
+}
+
+static uint16_t odd_word(struct random *r)
+{
+    static const uint16_t words[] = {
+        0, 1, 2, 3, 4, 5, 6, 9, 10, 0x0100, 0x0101, 0x0102, 0x0200, 0x0201, 0x8000, 0xFF00, 0xFFFF
+    };
+
+    return once_in(r, 8) ? (uint16_t)random64(r) : PICK(r, words);
+}
+
+/* Mostly the word meant, now and then another. */
+static uint16_t mostly(struct random *r, uint16_t word)
+{
+    return once_in(r, 9) ? odd_word(r) : word;
+}
+
+static enum form any_form(struct random *r)
+{
+    return once_in(r, 2) ? SMART : LOG_EXT;
+}
+
+static uint32_t any_port(struct random *r)
+{
+    static const uint32_t wrong[] = { 4, 5, 7, 8, 255, 256, 0x10000, 0x7FFFFFFF, 0x80000000, 0xFFFFFFFF };
+
+    return once_in(r, 40) ? PICK(r, wrong) : (uint32_t)below(r, SCT_PORTS);
+}
+
+/* A port for a new request: an empty one, if the first choice is taken. */
+static uint32_t free_port(struct list *l)
+{
+    uint32_t port = any_port(&l->random);
+    struct record_fields f;
+
+    fields_now(l, &f);
+    for (int tries = 0; tries < 4 && port < SCT_PORTS && f.slot[port].stage != STAGE_EMPTY; tries++)
+        port = (port + 1) % SCT_PORTS;
+    return port;
+}
+
+/* ---- Requests --------------------------------------------------------------- */
+
+static uint64_t any_start(struct random *r, const struct record_fields *f)
+{
+    if (once_in(r, 4))
+        return 0;
+    return once_in(r, 5) ? near_limit(r, f) : below(r, f->visible);
+}
+
+static uint64_t any_count(struct random *r, const struct record_fields *f, uint64_t start)
+{
+    uint64_t left = f->visible - start;     /* wraps where Start is too large: as good as any */
+
+    switch (below(r, 8)) {
+    case 0:
+    case 1:  return 0;
+    case 2:
+    case 3:  return left - 1 + below(r, 4) - 1;     /* around the last count allowed */
+    case 4:  return 0 - start + below(r, 3);        /* the sum is 2^64 and a little */
+    case 5:  return near_limit(r, f);
+    default: return between(r, 1, 4);
+    }
+}
+
+static void any_fill(struct random *r, const struct record_fields *f, uint8_t *mailbox)
+{
+    enum form form = any_form(r);
+    uint16_t function = mostly(r, once_in(r, 3) ? 2 : 1);
+    uint64_t start = any_start(r, f);
+    uint64_t count = any_count(r, f, start);
+
+    build_fill(mailbox, form, function, start, count, (uint32_t)random64(r));
+}
+
+static void any_timer(struct random *r, uint8_t *mailbox)
+{
+    static const uint16_t values[] = { 0, 1, 5, 9, 10, 11, 70, 0x0100, 65535 };
+    enum form form = any_form(r);
+    uint16_t function = mostly(r, (uint16_t)between(r, 1, 2));
+    uint16_t timer = mostly(r, (uint16_t)between(r, 1, 2));
+    uint16_t value = PICK(r, values);
+
+    build_key(mailbox, form, 3, function, timer, value, odd_word(r));
+}
+
+static void any_feature(struct random *r, uint8_t *mailbox)
+{
+    static const uint16_t states[] = { 0, 1, 1, 2, 2, 3, 3, 4, 5, 0x0101, 65535 };
+    enum form form = any_form(r);
+    uint16_t function = mostly(r, once_in(r, 2) ? 1 : (uint16_t)between(r, 1, 3));
+    uint16_t feature = mostly(r, (uint16_t)between(r, 1, 3));
+    uint16_t state = PICK(r, states);
+    uint16_t option = mostly(r, (uint16_t)below(r, 2));
+
+    build_key(mailbox, form, 4, function, feature, state, option);
+}
+
+static void any_table(struct random *r, uint8_t *mailbox)
+{
+    enum form form = any_form(r);
+    uint16_t function = mostly(r, 1);
+    uint16_t table = mostly(r, 2);
+
+    build_key(mailbox, form, 5, function, table, odd_word(r), 0);
+}
+
+static void other_key(struct random *r, uint8_t *mailbox)
+{
+    uint16_t words[5];
+    enum form form = any_form(r);
+
+    for (int i = 0; i < 5; i++)
+        words[i] = odd_word(r);
+    build_key(mailbox, form, words[0], words[1], words[2], words[3], words[4]);
+}
+
+static uint16_t any_transfer_count(struct random *r)
+{
+    static const uint16_t counts[] = { 0, 2, 255, 256, 257, 65535 };
+
+    return once_in(r, 6) ? PICK(r, counts) : 1;
+}
+
+static void any_transfer(struct random *r, bool write, uint8_t *mailbox)
+{
+    enum form form = any_form(r);
+
+    build_log(mailbox, form, write, 0xE1, any_transfer_count(r));
+}
+
+/* A status read or a key whose count may be wrong. */
+static void any_count_of_e0(struct random *r, uint8_t *mailbox)
+{
+    enum form form = any_form(r);
+    bool write = once_in(r, 2);
+
+    build_log(mailbox, form, write, 0xE0, any_transfer_count(r));
+}
+
+static void any_sector(struct random *r, const struct record_fields *f, uint8_t *mailbox)
+{
+    uint64_t lba = once_in(r, 4) ? near_limit(r, f) : below(r, f->visible);
+    bool write = once_in(r, 2);
+
+    if (once_in(r, 6))      /* right in its low bits only */
+        lba |= (uint64_t)1 << between(r, 16, 47);
+    build_sector(mailbox, write, lba, any_transfer_count(r));
+}
+
+static void any_command(struct random *r, uint8_t *mailbox)
+{
+    static const uint8_t commands[] = {
+        0xEC, 0x20, 0x25, 0x35, 0xB0, 0x2F, 0x3F, 0x24, 0x34, 0x47, 0x57, 0xE7, 0xEF
+    };
+
+    enum form form = any_form(r);
+    bool write = once_in(r, 2);
+    uint8_t log = once_in(r, 2) ? 0xE0 : 0xE1;
+
+    build_log(mailbox, form, write, log, any_transfer_count(r));
+    mailbox[R_COMMAND] = once_in(r, 3) ? (uint8_t)random64(r) : PICK(r, commands);
+}
+
+/* Whatever no rule reads may hold anything. */
+static void dress(struct random *r, uint8_t *mailbox)
+{
+    static const uint8_t ignored[3][7] = {
+        { 1, 3, 5, 7, 9, R_DEVICE, R_STATUS },      /* B0h */
+        { 0, 1, 5, 8, 9, R_DEVICE, R_ERROR },       /* 2Fh, 3Fh */
+        { 0, 1, 14, 15, R_ERROR, R_DEVICE, R_STATUS }
+    };
+    uint8_t command = mailbox[R_COMMAND];
+    int family = command == 0xB0 ? 0 : command == 0x2F || command == 0x3F ? 1 : 2;
+    unsigned from = R_SECTOR + (mailbox[R_LOW] == 0xE0 ? 24 : 0);
+
+    if (once_in(r, 2))
+        for (int i = 0; i < 7; i++)
+            mailbox[ignored[family][i]] = (uint8_t)random64(r);
+    if (!once_in(r, 4))
+        random_bytes(r, mailbox + from, SCT_MAILBOX_BYTES - from);
+}
+
+/* One bit of the registers or of the key is wrong. */
+static void spoil(struct random *r, uint8_t *mailbox)
+{
+    size_t at = (size_t)(once_in(r, 2) ? below(r, R_SECTOR) : R_SECTOR + below(r, 24));
+
+    mailbox[at] ^= (uint8_t)(1u << below(r, 8));
+}
+
+static void any_request(struct list *l, uint8_t *mailbox)
+{
+    struct random *r = &l->random;
+    struct record_fields f;
+
+    fields_now(l, &f);
+    switch (below(r, 24)) {
+    case 0:
+    case 1:
+    case 2:  build_status(mailbox, any_form(r)); break;
+    case 3:  any_count_of_e0(r, mailbox); break;
+    case 4:
+    case 5:
+    case 6:
+    case 7:  any_fill(r, &f, mailbox); break;
+    case 8:
+    case 9:  any_timer(r, mailbox); break;
+    case 10:
+    case 11:
+    case 12: any_feature(r, mailbox); break;
+    case 13: any_table(r, mailbox); break;
+    case 14: other_key(r, mailbox); break;
+    case 15: any_transfer(r, false, mailbox); break;
+    case 16:
+    case 17: any_transfer(r, true, mailbox); break;
+    case 18:
+    case 19:
+    case 20:
+    case 21: any_sector(r, &f, mailbox); break;
+    case 22: any_command(r, mailbox); break;
+    default: random_bytes(r, mailbox, SCT_MAILBOX_BYTES); break;
+    }
+    dress(r, mailbox);
+    if (once_in(r, 12))
+        spoil(r, mailbox);
+}
+
+/* ---- Plans: single things ---------------------------------------------------- */
+
+static void plan_work(struct list *l);
+static void plan_sample(struct list *l);
+
+/* Something that another core or the owner does in between. */
+static void maybe_between(struct list *l)
+{
+    if (!once_in(&l->random, 16))
+        return;
+    if (once_in(&l->random, 2))
+        plan_work(l);
+    else
+        plan_sample(l);
+}
+
+static void exchange(struct list *l, uint32_t port, const uint8_t *mailbox)
+{
+    struct step *step = add(l, TAKE);
+
+    step->port = port;
+    memcpy(step->mailbox, mailbox, SCT_MAILBOX_BYTES);
+    maybe_between(l);
+    add(l, SERVE)->port = port;
+    maybe_between(l);
+    step = add(l, GIVE);
+    step->port = port;
+    random_bytes(&l->random, step->mailbox, SCT_MAILBOX_BYTES);
+}
+
+static void plan_exchange(struct list *l)
+{
+    uint8_t mailbox[SCT_MAILBOX_BYTES];
+
+    any_request(l, mailbox);
+    exchange(l, free_port(l), mailbox);
+}
+
+/* Empties a slot that was left held or answered. */
+static void plan_settle(struct list *l)
+{
+    struct record_fields f;
+
+    fields_now(l, &f);
+    for (uint32_t port = 0; port < SCT_PORTS; port++) {
+        if (f.slot[port].stage == STAGE_HELD)
+            add(l, SERVE)->port = port;
+        if (f.slot[port].stage != STAGE_EMPTY)
+            add(l, GIVE)->port = port;
+    }
+    plan_work(l);
+}
+
+/* One of take, serve and give, in whatever stage the slot is. */
+static void plan_loose(struct list *l)
+{
+    static const enum entry entries[] = { TAKE, TAKE, SERVE, SERVE, GIVE };
+    struct step *step = add(l, PICK(&l->random, entries));
+
+    step->port = any_port(&l->random);
+    any_request(l, step->mailbox);
+}
+
+static void plan_work(struct list *l)
+{
+    static const uint32_t large[] = { 0x10000, 0x7FFFFFFF, 0x80000000, 0xFFFFFFFF };
+    struct random *r = &l->random;
+    struct record_fields f;
+    uint64_t left;
+    struct step *step = add(l, WORK);
+
+    fields_now(l, &f);
+    left = f.end - f.next;
+    switch (below(r, 8)) {
+    case 0:  step->n = 0; break;
+    case 1:  step->n = PICK(r, large); break;
+    case 2:  step->n = (uint32_t)(left + below(r, 3) - 1); break;
+    default: step->n = (uint32_t)between(r, 1, 4); break;
+    }
+}
+
+static void plan_lock(struct list *l)
+{
+    struct random *r = &l->random;
+
+    if (once_in(r, 3)) {
+        add(l, UNLOCK);
+        return;
+    }
+    add(l, LOCK);
+    for (uint64_t i = below(r, 4); i > 0; i--)
+        plan_exchange(l);
+    if (once_in(r, 4))
+        add(l, LOCK);
+    if (!once_in(r, 8))
+        add(l, UNLOCK);
+}
+
+static void plan_visible(struct list *l)
+{
+    struct random *r = &l->random;
+    struct record_fields f;
+    struct step *step = add(l, SET_VISIBLE);
+
+    fields_now(l, &f);
+    switch (below(r, 6)) {
+    case 0:  step->visible = near_limit(r, &f); break;
+    case 1:  step->visible = f.visible; break;
+    case 2:  step->visible = f.native; break;
+    case 3:  step->visible = f.end == 0 ? f.visible : below(r, f.end) + 1; break;    /* into a fill */
+    default: step->visible = between(r, 1, f.native); break;
+    }
+}
+
+static void plan_sample(struct list *l)
+{
+    for (uint64_t i = once_in(&l->random, 4) ? below(&l->random, 12) : 1; i > 0; i--)
+        add(l, SAMPLE)->reading = random_reading(&l->random);
+}
+
+/* ---- Plans: images ------------------------------------------------------------ */
+
+static size_t room_for(struct random *r, uint64_t used)
+{
+    const uint64_t lengths[] = {
+        used, used + 1, used + 559, used + 560, used + 561, 65519, 65520, 66080, IMAGE_ROOM
+    };
+    uint64_t length = once_in(r, 3) ? PICK(r, lengths) : SCT_IMAGE_LIMIT;
+
+    return (size_t)(length <= IMAGE_ROOM ? length : IMAGE_ROOM);
+}
+
+static void plan_save(struct list *l)
+{
+    for (uint64_t i = between(&l->random, 1, 3); i > 0; i--)
+        add(l, SAVE)->length[IMAGE] = room_for(&l->random, l->pair->used);
+    if (l->pair->used > 6 * SCT_ENTRY_BYTES && l->style != IMAGES)
+        add(l, USE_LENGTH)->used = 0;
+}
+
+static void plan_power_on(struct list *l)
+{
+    struct random *r = &l->random;
+    struct step *step = add(l, POWER_ON);
+
+    if (once_in(r, 3))
+        step->used_now = false, step->used = 0;
+    if (once_in(r, 3))
+        step->length[IMAGE] = (size_t)l->pair->used;
+    if (step->length[IMAGE] == 0)
+        step->null_if_empty = once_in(r, 2);
+}
+
+static uint64_t any_native(struct list *l)
+{
+    const uint64_t sizes[] = { 1, 2, l->pair->sectors - 1, l->pair->sectors + 1, 65535, 65536, 65537 };
+    uint64_t native = once_in(&l->random, 6) ? PICK(&l->random, sizes) : l->pair->sectors;
+
+    return native == 0 ? 1 : native;
+}
+
+static void plan_new_image(struct list *l)
+{
+    struct random *r = &l->random;
+    struct step *step = add(l, NEW_IMAGE);
+
+    step->seed = random64(r);
+    step->native = any_native(l);
+    step->chain = (uint32_t)(once_in(r, 12) ? between(r, 115, 117) : between(r, 0, 5));
+    plan_power_on(l);
+    plan_save(l);
+}
+
+/* One byte of the image changes; then it is read, and sometimes mended. */
+static void plan_damage(struct list *l)
+{
+    static const uint8_t values[] = { 0, 1, 2, 3, 8, 0x7F, 0x80, 0xFE, 0xFF };
+    struct random *r = &l->random;
+    uint64_t used = l->pair->used;
+    size_t offset = (size_t)below(r, used == 0 ? SCT_ENTRY_BYTES : used);
+    struct step *step = add(l, EDIT_IMAGE);
+
+    if (once_in(r, 2) && used != 0)     /* not in the history, which may hold anything */
+        offset = offset / SCT_ENTRY_BYTES * SCT_ENTRY_BYTES + (once_in(r, 2) ? below(r, 66) : between(r, 540, 559));
+    step->offset = offset;
+    step->value = once_in(r, 2) ? PICK(r, values) : (uint8_t)(l->pair->image[offset] ^ (1u << below(r, 8)));
+    add(l, POWER_ON);
+    add(l, SAVE);
+    if (once_in(r, 2)) {
+        step = add(l, EDIT_IMAGE);
+        step->offset = offset;
+        step->value = l->pair->image[offset];
+    }
+}
+
+static void plan_used(struct list *l)
+{
+    struct random *r = &l->random;
+    uint64_t used = l->pair->used;
+    const uint64_t lengths[] = {
+        0, used - 560, used + 560, used - 1, used + 1, 559, 561, 65519, 65520, 65521, 66080, 69999, 70000, 70001,
+        0x100000000 + used, 0 - (uint64_t)560, UINT64_MAX
+    };
+    struct step *step = add(l, once_in(r, 2) ? SAVE : POWER_ON);
+
+    step->used_now = false;
+    step->used = PICK(r, lengths);
+    step->length[IMAGE] = once_in(r, 2) ? IMAGE_ROOM : room_for(r, used);
+    if (once_in(r, 3))
+        add(l, USE_LENGTH)->used = once_in(r, 2) || used < 560 ? 0 : used - 560;
+}
+
+/* A power-on with a disk of another size, and the way back. */
+static void plan_other_disk(struct list *l)
+{
+    struct random *r = &l->random;
+    struct step *step = add(l, POWER_ON);
+
+    step->length[DISK] = (size_t)(any_native(l) * SCT_SECTOR_BYTES);
+    if (once_in(r, 2))
+        step->used_now = false, step->used = 0;
+    plan_exchange(l);
+    add(l, SAVE)->length[IMAGE] = room_for(r, l->pair->used);
+    step = add(l, POWER_ON);
+    step->used_now = once_in(r, 2);
+    if (!step->used_now)
+        step->used = 0;
+}
+
+/* ---- Plans: records ------------------------------------------------------------ */
+
+static struct step *new_record(struct list *l)
+{
+    struct step *step = add(l, NEW_RECORD);
+
+    step->seed = random64(&l->random);
+    step->native = once_in(&l->random, 20) ? any_native(l) : l->pair->sectors;
+    return step;
+}
+
+static void plan_new_record(struct list *l)
+{
+    new_record(l);
+}
+
+/* Records that are sound but for one number, perhaps; then sound ones again. */
+static void plan_spoilt(struct list *l)
+{
+    for (uint64_t i = between(&l->random, 1, 12); i > 0; i--) {
+        new_record(l)->spoilt = true;
+        plan_work(l);
+    }
+    new_record(l);
+}
+
+static void plan_edit_record(struct list *l)
+{
+    static const uint8_t values[] = { 0, 1, 2, 3, 4, 9, 10, 0x7F, 0x80, 0xFF };
+    struct random *r = &l->random;
+    size_t offset = (size_t)(once_in(r, 4) ? below(r, SCT_RECORD_BYTES)
+                           : once_in(r, 4) ? between(r, 512, 550) : below(r, 170));
+    struct step *step = add(l, EDIT_RECORD);
+
+    step->offset = offset;
+    step->value = once_in(r, 2) ? PICK(r, values) : (uint8_t)(l->pair->record[offset] ^ (1u << below(r, 8)));
+    for (int i = 0; i < 2; i++)
+        plan_exchange(l);
+    plan_work(l);
+    if (once_in(r, 2)) {
+        step = add(l, EDIT_RECORD);
+        step->offset = offset;
+        step->value = l->pair->record[offset];
+    }
+}
+
+/* ---- Plans: scenarios ------------------------------------------------------------ */
+
+static void status_by(struct list *l, uint32_t port)
+{
+    uint8_t mailbox[SCT_MAILBOX_BYTES];
+
+    build_status(mailbox, any_form(&l->random));
+    dress(&l->random, mailbox);
+    exchange(l, port % SCT_PORTS, mailbox);
+}
+
+static void work_by(struct list *l, uint32_t n)
+{
+    add(l, WORK)->n = n;
+}
+
+/* What may befall a fill or a pending transfer. */
+static void plan_disturbance(struct list *l)
+{
+    switch (below(&l->random, 9)) {
+    case 0:  plan_visible(l); break;
+    case 1:  plan_lock(l); break;
+    case 2:  add(l, UNLOCK); break;
+    case 3:  plan_power_on(l); break;
+    case 4:  plan_save(l); break;
+    case 5:  plan_sample(l); break;
+    case 6:  status_by(l, (uint32_t)below(&l->random, SCT_PORTS)); break;
+    default: plan_exchange(l); break;
+    }
+}
+
+/* A fill is started, worked on, disturbed, worked on, and looked at. */
+static void plan_fill(struct list *l)
+{
+    struct random *r = &l->random;
+    uint8_t mailbox[SCT_MAILBOX_BYTES];
+    struct record_fields f;
+    uint32_t port = free_port(l);
+
+    fields_now(l, &f);
+    any_fill(r, &f, mailbox);
+    put16(mailbox + R_SECTOR + 2, 1);
+    exchange(l, port, mailbox);
+    for (uint64_t i = below(r, 3); i > 0; i--)
+        work_by(l, (uint32_t)between(r, 0, 3));
+    status_by(l, port + 1);
+    if (once_in(r, 2))
+        plan_disturbance(l);
+    work_by(l, (uint32_t)between(r, 0, 3));
+    if (once_in(r, 2))
+        work_by(l, 0xFFFFFFFF);
+    status_by(l, port + 1);
+}
+
+/* The whole visible disk is filled; then something that may clear the flag. */
+static void plan_whole_fill(struct list *l)
+{
+    struct random *r = &l->random;
+    uint8_t mailbox[SCT_MAILBOX_BYTES];
+    struct record_fields f;
+    uint32_t port = free_port(l);
+    uint64_t count;
+
+    fields_now(l, &f);
+    count = once_in(r, 3) ? f.visible - 1 : 0;
+    build_fill(mailbox, SMART, 1, 0, count, (uint32_t)random64(r));
+    exchange(l, port, mailbox);
+    if (once_in(r, 3))
+        work_by(l, (uint32_t)(f.visible - 1));
+    work_by(l, 0xFFFFFFFF);
+    status_by(l, port + 1);
+    switch (below(r, 4)) {
+    case 0:
+        build_sector(mailbox, true, below(r, f.visible + 1), 1);
+        dress(r, mailbox);
+        exchange(l, port, mailbox);
+        break;
+    case 1:
+        add(l, SET_VISIBLE)->visible = once_in(r, 2) ? f.visible : between(r, 1, f.native);
+        break;
+    case 2:
+        add(l, SAVE);
+        add(l, POWER_ON);
+        break;
+    default:
+        any_fill(r, &f, mailbox);
+        exchange(l, port, mailbox);
+        work_by(l, (uint32_t)below(r, 2));
+        break;
+    }
+    status_by(l, port);
+}
+
+/* The E1h that collects a transfer: now and then by a wrong port, or the wrong way. */
+static void collect(struct list *l, uint32_t port, bool write)
+{
+    struct random *r = &l->random;
+    uint8_t mailbox[SCT_MAILBOX_BYTES];
+
+    if (once_in(r, 6))
+        port = (port + 1) % SCT_PORTS;
+    if (once_in(r, 8))
+        write = !write;
+    any_transfer(r, write, mailbox);
+    dress(r, mailbox);
+    exchange(l, port, mailbox);
+}
+
+static void plan_sector_fill(struct list *l)
+{
+    struct random *r = &l->random;
+    uint8_t mailbox[SCT_MAILBOX_BYTES];
+    struct record_fields f;
+    uint32_t port = free_port(l);
+
+    fields_now(l, &f);
+    any_fill(r, &f, mailbox);
+    put16(mailbox + R_SECTOR + 2, 2);
+    exchange(l, port, mailbox);
+    if (once_in(r, 2))
+        plan_disturbance(l);
+    collect(l, port, true);
+    if (once_in(r, 3))
+        collect(l, port, true);
+    work_by(l, (uint32_t)between(r, 0, 4));
+    status_by(l, port);
+    if (once_in(r, 2))
+        work_by(l, 0xFFFFFFFF);
+}
+
+static void plan_table(struct list *l)
+{
+    struct random *r = &l->random;
+    uint8_t mailbox[SCT_MAILBOX_BYTES];
+    uint32_t port = free_port(l);
+
+    build_key(mailbox, SMART, 5, 1, 2, odd_word(r), 0);
+    exchange(l, port, mailbox);
+    plan_sample(l);
+    if (once_in(r, 3))
+        plan_disturbance(l);
+    collect(l, port, false);
+    if (once_in(r, 3))
+        collect(l, port, false);
+}
+
+/* An interval is set, a history grows, is saved, and comes back or does not. */
+static void plan_history(struct list *l)
+{
+    struct random *r = &l->random;
+    uint8_t mailbox[SCT_MAILBOX_BYTES];
+    uint16_t interval = (uint16_t)between(r, 1, 3);
+
+    if (once_in(r, 2)) {
+        build_key(mailbox, LOG_EXT, 4, 1, 3, interval, (uint16_t)below(r, 2));
+        exchange(l, free_port(l), mailbox);
+    }
+    for (uint64_t i = between(r, 0, 40); i > 0; i--)
+        add(l, SAMPLE)->reading = random_reading(r);
+    if (once_in(r, 3)) {
+        add(l, SAVE);
+        add(l, POWER_ON);
+    }
+    plan_table(l);
+}
+
+/* ---- Choosing a plan -------------------------------------------------------------- */
+
+static const struct {
+    void (*make)(struct list *);
+    uint8_t weight[STYLES];     /* mixed, fills, transfers, heat, images, unruly, lengths, records */
+} plans[] = {
+    { plan_exchange,    { 12,  8, 10,  3,  4,  2, 12, 16 } },
+    { plan_settle,      {  2,  2,  2,  1,  1,  1,  2,  6 } },
+    { plan_loose,       {  3,  2,  3,  1,  1, 30,  6,  6 } },
+    { plan_work,        {  4,  8,  3,  1,  1,  5,  5,  6 } },
+    { plan_lock,        {  1,  1,  2,  0,  1,  1,  1,  1 } },
+    { plan_visible,     {  3,  5,  2,  0,  1,  2,  3,  3 } },
+    { plan_sample,      {  2,  1,  1, 20,  2,  2,  3,  4 } },
+    { plan_save,        {  1,  1,  1,  1, 12,  1,  3,  2 } },
+    { plan_power_on,    {  1,  1,  1,  1,  6,  1,  3,  1 } },
+    { plan_new_image,   {  1,  0,  0,  0,  4,  0,  2,  0 } },
+    { plan_damage,      {  1,  0,  0,  0, 10,  0,  2,  0 } },
+    { plan_used,        {  1,  0,  0,  0,  4,  0,  4,  0 } },
+    { plan_other_disk,  {  1,  0,  0,  0,  2,  0,  2,  0 } },
+    { plan_new_record,  {  1,  0,  0,  1,  1,  1,  1, 12 } },
+    { plan_edit_record, {  0,  0,  0,  0,  0,  0,  1,  6 } },
+    { plan_spoilt,      {  0,  0,  0,  0,  0,  0,  0,  6 } },
+    { plan_fill,        {  4, 16,  3,  0,  1,  1,  2,  3 } },
+    { plan_whole_fill,  {  2, 10,  1,  0,  1,  1,  1,  1 } },
+    { plan_sector_fill, {  3,  4, 20,  0,  0,  1,  2,  3 } },
+    { plan_table,       {  2,  0, 10,  2,  0,  1,  2,  2 } },
+    { plan_history,     {  1,  0,  1, 10,  2,  0,  1,  1 } },
+};
+
+#define PLAN_COUNT (sizeof plans / sizeof plans[0])
+
+static void plan(struct list *l)
+{
+    unsigned total = 0;
+    uint64_t ticket;
+
+    for (size_t i = 0; i < PLAN_COUNT; i++)
+        total += plans[i].weight[l->style];
+    ticket = below(&l->random, total);
+    for (size_t i = 0; i < PLAN_COUNT; i++) {
+        if (ticket < plans[i].weight[l->style]) {
+            plans[i].make(l);
+            return;
+        }
+        ticket -= plans[i].weight[l->style];
+    }
+}
+
+/* ---- Wrong lengths ------------------------------------------------------------------ */
+
+static size_t wrong_length(struct random *r, size_t right, size_t most)
+{
+    const size_t lengths[] = { 0, 0, 1, right - 1, right + 1, right / 2, 2 * right, right - 512, right + 512 };
+    size_t length = PICK(r, lengths);
+
+    return length <= most ? length : 0;
+}
+
+static void wrong_disk(struct list *l, struct step *step)
+{
+    const size_t most = ((size_t)SCT_NATIVE_LIMIT + 1) * SCT_SECTOR_BYTES;
+
+    step->length[DISK] = once_in(&l->random, 20) ? most
+                       : wrong_length(&l->random, step->length[DISK], most);
+}
+
+/* Makes some of the lent lengths wrong, and some of the numbers. */
+static void distort(struct list *l, struct step *step)
+{
+    struct random *r = &l->random;
+
+    step->null_if_empty = once_in(r, 2);
+    for (enum buffer b = 0; b < BUFFERS; b++) {
+        if (!entry_is_lent(step->entry, b) || once_in(r, 2))
+            continue;
+        if (b == DISK)
+            wrong_disk(l, step);
+        else if (b == IMAGE)
+            step->length[b] = (size_t)below(r, once_in(r, 2) ? 2 : l->pair->used + 600) % IMAGE_ROOM;
+        else
+            step->length[b] = wrong_length(r, step->length[b], 2 * step->length[b]);
+    }
+    if (once_in(r, 4)) {
+        step->port = (uint32_t)random64(r);
+        step->port >>= below(r, 32);
+    }
+    if (once_in(r, 6))
+        step->visible = 0;
+}
+
+/* ---- Lists -------------------------------------------------------------------------- */
+
+enum { LARGE_EVERY = 800, LONG_EVERY = 400 };
+
+/* The index also gives the style, so the large ones move through all of them. */
+static bool is_large(uint64_t index)
+{
+    return (index + index / LARGE_EVERY) % LARGE_EVERY == 1;
+}
+
+static uint64_t any_size(struct random *r, uint64_t index)
+{
+    if (is_large(index))
+        return once_in(r, 2) ? SCT_NATIVE_LIMIT : SCT_NATIVE_LIMIT - below(r, 3);
+    switch (below(r, 8)) {
+    case 0:  return 1;
+    case 1:
+    case 2:  return between(r, 2, 8);
+    case 3:  return 64;
+    case 4:  return between(r, 65, 300);
+    default: return between(r, 9, 64);
+    }
+}
+
+static uint64_t any_list_length(struct random *r, uint64_t index)
+{
+    if (is_large(index))
+        return between(r, 40, 200);
+    return index % LONG_EVERY == 2 ? between(r, 2000, 5000) : between(r, 20, 160);
+}
+
+/* A list starts with a power-on, mostly a good one, mostly from nothing. */
+static void plan_start(struct list *l)
+{
+    struct random *r = &l->random;
+
+    if (once_in(r, 10))
+        plan_exchange(l);       /* over a record of junk */
+    if (once_in(r, 4))
+        plan_new_image(l);
+    add(l, POWER_ON);
+    if (once_in(r, 3))
+        plan_visible(l);
+}
+
+void list_begin(struct list *list, struct pair *pair, uint64_t seed, uint64_t index)
+{
+    enum placement placement;
+    uint64_t sectors;
+
+    list->random = random_for(seed, index);
+    list->pair = pair;
+    list->style = (enum style)(index % STYLES);
+    list->length = any_list_length(&list->random, index);
+    list->last_answer = 0;
+    list->head = list->count = 0;
+    sectors = any_size(&list->random, index);
+    placement = (enum placement)below(&list->random, PLACEMENTS);
+    pair_reset(pair, &list->random, sectors, placement);
+    plan_start(list);
+}
+
+void list_next(struct list *list, struct step *step)
+{
+    struct random *r = &list->random;
+
+    if (list->last_answer == SCT_RECORD && list->style != RECORDS && once_in(r, 3)) {
+        list->count = 0;        /* the record is past use: start again */
+        plan_power_on(list);
+    }
+    while (list->count == 0)
+        plan(list);
+    *step = list->queue[list->head];
+    list->head = (list->head + 1) % QUEUE;
+    list->count--;
+    if (step->used_now && step->entry != USE_LENGTH)
+        step->used = list->pair->used;
+    if (step->entry < ENTRIES && once_in(r, list->style == LENGTHS ? 4 : 100))
+        distort(list, step);
+}

@@ -1,0 +1,67 @@
+/*
+ * pair.h - two implementations side by side.
+ *
+ * Each side has buffers of its own. The bytes that both left behind after the
+ * last step are kept once, here; a step lends each side a copy of them, calls,
+ * and compares everything. The disk is too large for that: each side keeps its
+ * own, and a third copy tells what may not have changed. Of a large disk the
+ * comparison is put off, for some steps at most, and never beyond a step that
+ * may change V.
+ */
+#ifndef PAIR_H
+#define PAIR_H
+
+#include "implementation.h"
+#include "lend.h"
+#include "random.h"
+#include "step.h"
+
+enum { IMAGE_ROOM = 70000 };    /* more than any readable image needs */
+
+struct side {
+    const struct implementation *code;
+    struct arena arena[BUFFERS];
+    struct arena other_disk;    /* lent where the disk's length is wrong */
+    uint8_t     *lent[BUFFERS];
+};
+
+struct pair {
+    struct side    side[2];
+    uint8_t        record[SCT_RECORD_BYTES];
+    uint8_t        private_area[SCT_PRIVATE_BYTES];
+    uint8_t        image[IMAGE_ROOM];
+    uint64_t       used;
+    uint64_t       sectors;     /* of the list's disk */
+    uint8_t       *disk;        /* the third copy */
+    unsigned       put_off;     /* steps since a large disk was compared */
+    enum placement placement;
+    unsigned       shift;
+};
+
+struct outcome {
+    uint32_t          answer;
+    uint32_t          sectors;          /* work's report */
+    bool              filled_before, fills_after;
+    enum request_kind kind;             /* serve: the request */
+    uint8_t           reply[SCT_REGISTER_BYTES];
+};
+
+/* Makes all buffers; once, before anything else. */
+void pair_make(struct pair *pair, const struct implementation *a, const struct implementation *b);
+
+/* A disk of this size with random content, empty image, junk in the record. */
+void pair_reset(struct pair *pair, struct random *r, uint64_t sectors, enum placement placement);
+
+/*
+ * Runs a step on both sides. False if anything differs or was not allowed; the
+ * differences are then printed.
+ */
+bool pair_step(struct pair *pair, const struct step *step, struct outcome *outcome);
+
+/* Compares the disks if that was put off. To be called at the end of a list. */
+bool pair_finish(struct pair *pair);
+
+/* A step with its right lengths, everything else 0. */
+struct step plain_step(const struct pair *pair, enum entry entry);
+
+#endif

@@ -1,0 +1,19 @@
+/* statistics.h - what the run met, so that one can see that it met everything. */
+#ifndef STATISTICS_H
+#define STATISTICS_H
+
+#include "pair.h"
+
+enum { ANSWERS = 9, CODES = 0x13, OUTCOMES = CODES + 2 };
+
+struct statistics {
+    uint64_t lists, steps, sweep_steps;
+    uint64_t answers[ENTRIES][ANSWERS + 1];     /* the last one: an answer that is none */
+    uint64_t requests[REQUEST_KINDS][OUTCOMES]; /* by code; then Error 10h; then good */
+    uint64_t fills_finished, sectors_written, images_restored, entries_saved;
+};
+
+void statistics_add(struct statistics *s, const struct step *step, const struct outcome *outcome);
+void statistics_print(const struct statistics *s);
+
+#endif

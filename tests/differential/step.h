@@ -1,0 +1,66 @@
+/* step.h - one step of a list, and its words. */
+#ifndef STEP_H
+#define STEP_H
+
+#include <stdbool.h>
+#include <stddef.h>
+#include <stdint.h>
+#include <stdio.h>
+
+#include "sct_disk.h"
+
+/* The ten entries, then what the harness itself may do between them. */
+enum entry {
+    POWER_ON, TAKE, SERVE, GIVE, WORK, LOCK, UNLOCK, SET_VISIBLE, SAMPLE, SAVE,
+    ENTRIES,
+    EDIT_IMAGE = ENTRIES,   /* one byte of the image changes */
+    EDIT_RECORD,            /* one byte of the record changes */
+    NEW_IMAGE,              /* another image, of `chain` random entries */
+    NEW_RECORD,             /* another record: random, sound or nearly */
+    USE_LENGTH,             /* the used length changes */
+    STEP_KINDS
+};
+
+enum buffer { RECORD, PRIVATE_AREA, MAILBOX, IMAGE, DISK, BUFFERS };
+
+struct step {
+    enum entry entry;
+    uint32_t   port;
+    uint32_t   n;                       /* work */
+    uint64_t   visible;                 /* set V */
+    uint64_t   used;                    /* save, power-on */
+    bool       used_now;                /* use the length of that moment instead */
+    uint8_t    reading;                 /* sample */
+    size_t     length[BUFFERS];         /* lent lengths */
+    bool       null_if_empty;           /* lend NULL where the length is 0 */
+    uint8_t    mailbox[SCT_MAILBOX_BYTES];  /* what it holds at take or give */
+    size_t     offset;                  /* edits */
+    uint8_t    value;
+    uint64_t   seed, native;            /* new image, new record */
+    bool       spoilt;
+    uint32_t   chain;
+};
+
+extern const char *const entry_name[STEP_KINDS];
+extern const char *const buffer_name[BUFFERS];
+
+/* True if the entry is lent this buffer. */
+bool entry_is_lent(enum entry entry, enum buffer buffer);
+
+/* True if the entry may change this buffer when it answers 0. */
+bool entry_may_change(enum entry entry, enum buffer buffer);
+
+/* The step in words, without a newline. `sectors` is the list's disk. */
+void print_step(FILE *out, const struct step *step, uint64_t sectors);
+
+/* What kind of request a slot holds, for statistics and for words. */
+enum request_kind {
+    K_STATUS, K_FILL_PATTERN, K_FILL_SECTOR, K_TIMER, K_FEATURE, K_TABLE, K_OTHER_KEY,
+    K_DATA_READ, K_DATA_WRITE, K_SECTOR_READ, K_SECTOR_WRITE, K_OTHER, REQUEST_KINDS
+};
+
+extern const char *const kind_name[REQUEST_KINDS];
+
+enum request_kind kind_of_request(const uint8_t *mailbox);
+
+#endif

@@ -1,0 +1,483 @@
+#include "sweep.h"
+
+#include <string.h>
+
+#include "bytes.h"
+#include "layout.h"
+#include "request.h"
+
+enum { SECTORS = 8, VISIBLE = 6, HELD_PORT = 0, EMPTY_PORT = 1, ANSWERED_PORT = 2 };
+
+static bool sweep_step(struct pair *pair, struct statistics *s, const struct step *step)
+{
+    struct outcome outcome;
+
+    if (!pair_step(pair, step, &outcome)) {
+        printf("  in the step: ");
+        print_step(stdout, step, pair->sectors);
+        printf("\n");
+        return false;
+    }
+    s->sweep_steps++;
+    statistics_add(s, step, &outcome);
+    return true;
+}
+
+/* ---- The state from which each trial starts ---------------------------------- */
+
+struct start {
+    uint8_t  record[SCT_RECORD_BYTES];
+    uint8_t  private_area[SCT_PRIVATE_BYTES];
+    uint8_t  disk[SECTORS * SCT_SECTOR_BYTES];
+    uint8_t  image[3 * SCT_ENTRY_BYTES];
+    uint64_t used;
+};
+
+static void keep_start(struct start *start, const struct pair *pair)
+{
+    memcpy(start->record, pair->record, sizeof start->record);
+    memcpy(start->private_area, pair->private_area, sizeof start->private_area);
+    memcpy(start->disk, pair->disk, sizeof start->disk);
+    memcpy(start->image, pair->image, sizeof start->image);
+    start->used = pair->used;
+}
+
+static void go_to_start(struct pair *pair, const struct start *start)
+{
+    memcpy(pair->record, start->record, sizeof start->record);
+    memcpy(pair->private_area, start->private_area, sizeof start->private_area);
+    memcpy(pair->disk, start->disk, sizeof start->disk);
+    for (int i = 0; i < 2; i++)
+        memcpy(pair->side[i].arena[DISK].loan, start->disk, sizeof start->disk);
+    memcpy(pair->image, start->image, sizeof start->image);
+    pair->used = start->used;
+}
+
+/* Values for a byte: a few, the small ones too, or all. */
+enum variety { FEW, SMALL_TOO, ALL };
+
+static unsigned values_for(uint8_t *values, uint8_t now, struct random *r, enum variety variety)
+{
+    unsigned count = 0;
+
+    if (variety == ALL) {
+        for (unsigned v = 0; v < 256; v++)
+            values[count++] = (uint8_t)v;
+        return count;
+    }
+    values[count++] = (uint8_t)(now ^ 1);
+    values[count++] = (uint8_t)(now + 2);
+    values[count++] = (uint8_t)(once_in(r, 2) ? 0 : 0xFF);
+    values[count++] = (uint8_t)random64(r);
+    if (variety == SMALL_TOO)
+        for (unsigned v = 0; v < 12; v++)
+            values[count++] = (uint8_t)v;
+    return count;
+}
+
+/* ---- Records ------------------------------------------------------------------ */
+
+enum variation { IDLE, FILLING, AT_LAST_SECTOR, TABLE_PENDING, FILL_PENDING, LOCKED, ABOUT_TO_LOG, VARIATIONS };
+
+/* Port 0 held, port 2 answered, two thirds of the disk visible. */
+static void base_record(struct random *r, uint8_t *record, enum variation variation)
+{
+    struct record_fields f;
+
+    memset(&f, 0, sizeof f);
+    f.native = SECTORS;
+    f.visible = VISIBLE;
+    f.flag = 1;
+    f.code = 0x0004;
+    f.action = 3;
+    f.function = 2;
+    f.write_timer = 70;
+    f.feature1 = 2;
+    f.feature2 = 1;
+    f.kept1 = 1;
+    f.interval = variation == ABOUT_TO_LOG ? 3 : 300;
+    f.minutes = 2;
+    f.now = 0xF6;
+    f.cycle = 0xF6;
+    f.life = 0x20;
+    f.index = 477;
+    f.slot[HELD_PORT].stage = STAGE_HELD;
+    f.slot[ANSWERED_PORT].stage = STAGE_ANSWERED;
+    f.locked = variation == LOCKED;
+    random_bytes(r, f.history, sizeof f.history);
+    if (variation == FILLING || variation == AT_LAST_SECTOR) {
+        f.filling = 1;
+        f.code = 0xFFFF;
+        f.end = VISIBLE;
+        f.next = variation == FILLING ? 2 : VISIBLE - 1;
+    } else if (variation == TABLE_PENDING) {
+        f.slot[HELD_PORT].pending = PENDING_TABLE;
+    } else if (variation == FILL_PENDING) {
+        f.slot[HELD_PORT].pending = PENDING_FILL;
+        f.slot[HELD_PORT].first = 1;
+        f.slot[HELD_PORT].end = 4;
+    }
+    encode_record(record, &f);
+}
+
+enum { HELD_REQUESTS = 6 };
+
+static void held_request(uint8_t *mailbox, unsigned number)
+{
+    switch (number) {
+    case 0:  build_status(mailbox, SMART); break;
+    case 1:  build_fill(mailbox, LOG_EXT, 1, 1, 3, 0x04030201); break;
+    case 2:  build_key(mailbox, SMART, 4, 1, 3, 2, 1); break;
+    case 3:  build_data_read(mailbox, SMART); break;
+    case 4:  build_data_write(mailbox, LOG_EXT); break;
+    default: build_sector(mailbox, true, VISIBLE - 1, 1); break;
+    }
+}
+
+static struct step step_of(const struct pair *pair, enum entry entry)
+{
+    struct step step = plain_step(pair, entry);
+
+    step.port = entry == TAKE ? EMPTY_PORT : entry == GIVE ? ANSWERED_PORT : HELD_PORT;
+    step.n = 3;
+    step.visible = VISIBLE - 2;
+    step.reading = 0x21;
+    build_status(step.mailbox, SMART);
+    return step;
+}
+
+/* Every entry over the start's record with one byte changed. */
+static bool try_byte(struct pair *pair, struct statistics *s, struct start *start, size_t offset, uint8_t value)
+{
+    for (enum entry e = 0; e < ENTRIES; e++) {
+        unsigned requests = e == SERVE ? HELD_REQUESTS : 1;
+
+        for (unsigned number = 0; number < requests; number++) {
+            struct step step;
+
+            go_to_start(pair, start);
+            held_request(pair->private_area + SCT_MAILBOX_BYTES * HELD_PORT, number);
+            pair->record[offset] = value;
+            step = step_of(pair, e);
+            if (!sweep_step(pair, s, &step)) {
+                printf("  with byte %zu (%s) of the record at %02Xh, was %02Xh\n",
+                       offset, field_at(offset), value, start->record[offset]);
+                return false;
+            }
+        }
+    }
+    return true;
+}
+
+bool sweep_records(struct pair *pair, struct statistics *s, bool thorough)
+{
+    static struct start start;
+    struct random r = random_for(1, 1);
+    uint8_t values[256];
+
+    for (enum variation v = 0; v < VARIATIONS; v++) {
+        pair_reset(pair, &r, SECTORS, (enum placement)(v % PLACEMENTS));
+        base_record(&r, pair->record, v);
+        keep_start(&start, pair);
+        if (!try_byte(pair, s, &start, 0, start.record[0]))
+            return false;
+        for (size_t offset = 0; offset < SCT_RECORD_BYTES; offset++) {
+            bool plain = (offset >= 168 && offset < 512) || offset >= 560;      /* spare, or history */
+            enum variety variety = plain ? FEW : thorough ? ALL : SMALL_TOO;
+            unsigned count = values_for(values, start.record[offset], &r, variety);
+
+            for (unsigned i = 0; i < count; i++)
+                if (!try_byte(pair, s, &start, offset, values[i]))
+                    return false;
+        }
+    }
+    return true;
+}
+
+/* ---- Images ------------------------------------------------------------------- */
+
+static bool read_image(struct pair *pair, struct statistics *s, const struct start *start)
+{
+    struct step power_on = plain_step(pair, POWER_ON);
+    struct step save = plain_step(pair, SAVE);
+
+    if (!sweep_step(pair, s, &save))
+        return false;
+    pair->used = start->used;
+    return sweep_step(pair, s, &power_on);
+}
+
+bool sweep_images(struct pair *pair, struct statistics *s, bool thorough)
+{
+    static struct start start;
+    struct random r = random_for(1, 2);
+    uint8_t values[256];
+
+    pair_reset(pair, &r, SECTORS, AT_END);
+    base_record(&r, pair->record, IDLE);
+    for (uint32_t k = 1; k <= 3; k++)
+        random_entry(&r, pair->image, k, SECTORS);
+    pair->used = 3 * SCT_ENTRY_BYTES;
+    keep_start(&start, pair);
+    for (size_t offset = 0; offset < sizeof start.image; offset++) {
+        size_t place = offset % SCT_ENTRY_BYTES;
+        bool plain = place >= 80 && place < 540;        /* history */
+        unsigned count = values_for(values, start.image[offset], &r, thorough ? ALL : plain ? FEW : SMALL_TOO);
+
+        for (unsigned i = 0; i < count; i++) {
+            go_to_start(pair, &start);
+            pair->image[offset] = values[i];
+            if (!read_image(pair, s, &start)) {
+                printf("  with byte %zu of the image (%zu of its entry) at %02Xh, was %02Xh\n", offset,
+                       offset % SCT_ENTRY_BYTES, values[i], start.image[offset]);
+                return false;
+            }
+        }
+    }
+    return true;
+}
+
+/* ---- Chains -------------------------------------------------------------------- */
+
+/* Used lengths beside the right one; the buffer is as long as they say or longer. */
+static bool try_used_lengths(struct pair *pair, struct statistics *s)
+{
+    uint64_t right = pair->used;
+    const uint64_t lengths[] = {
+        right, right + 1, right - 1, right + 559, right + 560, right - 560, right / 2,
+        65519, 65521, 66080, 66640, 69999, 70000, 70001, 70560, (uint64_t)1 << 32, UINT64_MAX - 559, UINT64_MAX
+    };
+
+    for (size_t i = 0; i < sizeof lengths / sizeof lengths[0]; i++) {
+        struct step step = plain_step(pair, POWER_ON);
+
+        step.used = lengths[i];
+        for (size_t room = 0; room < 3; room++) {
+            step.length[IMAGE] = room == 0 ? (size_t)right : room == 1 ? SCT_IMAGE_LIMIT : IMAGE_ROOM;
+            step.entry = POWER_ON;
+            if (!sweep_step(pair, s, &step))
+                return false;
+            step.entry = SAVE;
+            if (!sweep_step(pair, s, &step))
+                return false;
+            pair->used = right;
+        }
+    }
+    return true;
+}
+
+/* Saves until the image is full, with a power-on from each length. */
+bool sweep_chain(struct pair *pair, struct statistics *s)
+{
+    struct random r = random_for(1, 3);
+
+    pair_reset(pair, &r, SECTORS, AT_START);
+    random_record(&r, pair->record, SECTORS);
+    for (unsigned k = 0; k < SCT_ENTRIES_LIMIT + 2; k++) {
+        struct step step = plain_step(pair, SAMPLE);
+
+        step.reading = random_reading(&r);
+        if (!sweep_step(pair, s, &step))
+            return false;
+        step.entry = SAVE;
+        step.length[IMAGE] = IMAGE_ROOM;
+        if (!sweep_step(pair, s, &step))
+            return false;
+        step = plain_step(pair, POWER_ON);
+        if (!sweep_step(pair, s, &step))
+            return false;
+        if ((k % 13 == 0 || k >= SCT_ENTRIES_LIMIT - 2) && !try_used_lengths(pair, s))
+            return false;
+        random_record(&r, pair->record, SECTORS);
+    }
+    return true;
+}
+
+/* ---- Addresses ------------------------------------------------------------------ */
+
+enum { NUMBERS = 4 * 64 + 3 };
+
+/* Every bit alone, all bits below it, and each with or without the last sector's. */
+static unsigned interesting_numbers(uint64_t *numbers, uint64_t visible)
+{
+    unsigned count = 0;
+
+    for (unsigned bit = 0; bit < 64; bit++) {
+        uint64_t power = (uint64_t)1 << bit;
+
+        numbers[count++] = power;
+        numbers[count++] = power - 1;
+        numbers[count++] = (visible - 1) ^ power;
+        numbers[count++] = 0 - power;
+    }
+    numbers[count++] = visible - 1;
+    numbers[count++] = visible;
+    numbers[count++] = visible + 1;
+    return count;
+}
+
+static bool sweep_exchange(struct pair *pair, struct statistics *s, const uint8_t *mailbox)
+{
+    struct step step = plain_step(pair, TAKE);
+
+    memcpy(step.mailbox, mailbox, SCT_MAILBOX_BYTES);
+    if (!sweep_step(pair, s, &step))
+        return false;
+    step.entry = SERVE;
+    if (!sweep_step(pair, s, &step))
+        return false;
+    step.entry = GIVE;
+    return sweep_step(pair, s, &step);
+}
+
+/* One sector is read and written at every address. */
+static bool try_sectors(struct pair *pair, struct statistics *s, struct random *r, uint64_t visible)
+{
+    uint64_t numbers[NUMBERS];
+    unsigned count = interesting_numbers(numbers, visible);
+
+    for (unsigned i = 0; i < 2 * count; i++) {
+        uint8_t mailbox[SCT_MAILBOX_BYTES];
+
+        build_sector(mailbox, i % 2 != 0, numbers[i / 2], 1);
+        random_bytes(r, mailbox + R_SECTOR, SCT_SECTOR_BYTES);
+        if (!sweep_exchange(pair, s, mailbox))
+            return false;
+    }
+    return true;
+}
+
+/* A fill is asked for with this Start and Count, and worked a little if it runs. */
+static bool try_fill(struct pair *pair, struct statistics *s, uint64_t start, uint64_t count)
+{
+    uint8_t mailbox[SCT_MAILBOX_BYTES];
+    struct step work = plain_step(pair, WORK);
+
+    build_fill(mailbox, LOG_EXT, 1, start, count, (uint32_t)(start + 17 * count));
+    if (!sweep_exchange(pair, s, mailbox))
+        return false;
+    work.n = 2;
+    return sweep_step(pair, s, &work);
+}
+
+static bool try_fills(struct pair *pair, struct statistics *s, uint64_t visible)
+{
+    uint64_t numbers[NUMBERS];
+    unsigned count = interesting_numbers(numbers, visible);
+
+    for (unsigned i = 0; i < count; i++) {
+        uint64_t a = numbers[i];
+        uint64_t left = visible - 1 - a;    /* the last count allowed, where Start is */
+
+        if (!try_fill(pair, s, a, 0) || !try_fill(pair, s, a, left) || !try_fill(pair, s, a, left + 1) ||
+            !try_fill(pair, s, a, 0 - a) || !try_fill(pair, s, a, 1 - a) ||
+            !try_fill(pair, s, 0, a) || !try_fill(pair, s, 1, a) || !try_fill(pair, s, visible - 1, a))
+            return false;
+    }
+    return true;
+}
+
+bool sweep_addresses(struct pair *pair, struct statistics *s)
+{
+    static const uint64_t sizes[] = { SCT_NATIVE_LIMIT, SCT_NATIVE_LIMIT - 1, 40000, 32768, 1 };
+    struct random r = random_for(1, 5);
+    struct step step;
+
+    pair_reset(pair, &r, SCT_NATIVE_LIMIT, AT_END);
+    step = plain_step(pair, POWER_ON);
+    if (!sweep_step(pair, s, &step))
+        return false;
+    for (size_t i = 0; i < sizeof sizes / sizeof sizes[0]; i++) {
+        step = plain_step(pair, SET_VISIBLE);
+        step.visible = sizes[i];
+        if (!sweep_step(pair, s, &step) || !try_sectors(pair, s, &r, sizes[i]) || !try_fills(pair, s, sizes[i]))
+            return false;
+    }
+    return pair_finish(pair);
+}
+
+/* ---- Lengths -------------------------------------------------------------------- */
+
+enum { LENGTH_CHOICES = 6 };
+
+/* Choice 0 is right; choice 1 is NULL, as null_if_empty is set with it. */
+static size_t choose_length(const struct step *step, enum buffer b, unsigned choice)
+{
+    size_t right = step->length[b];
+
+    switch (choice) {
+    case 0:  return right;
+    case 1:
+    case 2:  return 0;
+    case 3:  return right - 1;
+    case 4:  return right + 1;
+    default: return b == IMAGE ? SCT_ENTRY_BYTES : right + 512;
+    }
+}
+
+/* The mixture with this number: one choice for each buffer that is lent. */
+static struct step mixture(const struct pair *pair, enum entry entry, unsigned number)
+{
+    struct step step = step_of(pair, entry);
+
+    step.length[IMAGE] = 2 * SCT_ENTRY_BYTES;
+    for (enum buffer b = 0; b < BUFFERS; b++) {
+        if (!entry_is_lent(entry, b))
+            continue;
+        step.length[b] = choose_length(&step, b, number % LENGTH_CHOICES);
+        step.null_if_empty |= number % LENGTH_CHOICES == 1;
+        number /= LENGTH_CHOICES;
+    }
+    return step;
+}
+
+static unsigned mixtures(enum entry entry)
+{
+    unsigned count = 1;
+
+    for (enum buffer b = 0; b < BUFFERS; b++)
+        if (entry_is_lent(entry, b))
+            count *= LENGTH_CHOICES;
+    return count;
+}
+
+/* Every mixture of lengths, with good and bad ports, stages, records, images. */
+static bool try_lengths(struct pair *pair, struct statistics *s, const struct start *start, enum entry entry)
+{
+    static const uint32_t ports[] = { 0, 1, 2, 3, 4, 0x80000000 };
+    static const uint64_t sizes[] = { 1, 0, SECTORS, SECTORS + 1, 0x100000001, UINT64_MAX };
+
+    for (unsigned number = 0; number < mixtures(entry); number++) {
+        for (unsigned i = 0; i < 6 * 3; i++) {
+            struct step step;
+
+            go_to_start(pair, start);
+            pair->record[19] = i % 3 == 1;                              /* an unsound record */
+            pair->image[i % 3 == 2 ? 0 : 544] ^= i % 3 == 0 ? 0 : 1;    /* an unreadable image */
+            step = mixture(pair, entry, number);
+            step.port = ports[i / 3];
+            step.visible = sizes[i / 3];
+            if (!sweep_step(pair, s, &step))
+                return false;
+        }
+    }
+    return true;
+}
+
+bool sweep_lengths(struct pair *pair, struct statistics *s)
+{
+    static struct start start;
+    struct random r = random_for(1, 4);
+
+    for (enum placement p = 0; p < PLACEMENTS; p++) {
+        pair_reset(pair, &r, SECTORS, p);
+        base_record(&r, pair->record, FILLING);
+        random_entry(&r, pair->image, 1, SECTORS);
+        pair->used = SCT_ENTRY_BYTES;
+        keep_start(&start, pair);
+        for (enum entry e = 0; e < ENTRIES; e++)
+            if (!try_lengths(pair, s, &start, e))
+                return false;
+    }
+    return true;
+}

@@ -1,0 +1,19 @@
+/*
+ * sweep.h - what is tried in full rather than at random: every byte of a
+ * record, every byte of an image, every length of a chain, every bit of an
+ * address on the largest disk, every mixture of wrong lengths. Each returns false at the first difference, and prints it.
+ */
+#ifndef SWEEP_H
+#define SWEEP_H
+
+#include "pair.h"
+#include "statistics.h"
+
+/* `thorough`: all 256 values of each byte instead of a few. */
+bool sweep_records(struct pair *pair, struct statistics *s, bool thorough);
+bool sweep_images(struct pair *pair, struct statistics *s, bool thorough);
+bool sweep_chain(struct pair *pair, struct statistics *s);
+bool sweep_addresses(struct pair *pair, struct statistics *s);
+bool sweep_lengths(struct pair *pair, struct statistics *s);
+
+#endif

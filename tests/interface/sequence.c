@@ -1,0 +1,265 @@
+/*
+ * sequence.c - the interface at work, from power-on to power-on.
+ *
+ * The owner hides the end of a new disk. One core starts a fill, the handler
+ * works it off in pieces, and another core polls it. The device is saved and
+ * started again from what was saved. Whatever is printed has been compared;
+ * the first difference ends the program with 1. docs/interface.md tells the
+ * same in words.
+ */
+#include <stdio.h>
+#include <stdlib.h>
+#include <string.h>
+
+#include "sct_disk.h"
+
+/* ---- What the handler owns ----------------------------------------------- */
+
+enum { NATIVE = 64, VISIBLE = 48 };   /* sectors; those from 48 on are hidden */
+
+static uint8_t  record[SCT_RECORD_BYTES];
+static uint8_t  private_area[SCT_PRIVATE_BYTES];          /* no core sees it */
+static uint8_t  disk[NATIVE * SCT_SECTOR_BYTES];
+static uint8_t  mailbox[SCT_PORTS][SCT_MAILBOX_BYTES];    /* common memory */
+static uint8_t  image[2 * SCT_ENTRY_BYTES];
+static uint64_t used;
+
+static void expect(int holds, int line, const char *what)
+{
+    if (holds)
+        return;
+    printf("line %d, not so: %s\n", line, what);
+    exit(1);
+}
+
+#define EXPECT(condition) expect((condition), __LINE__, #condition)
+
+/* ---- What the handler does ----------------------------------------------- */
+
+static uint32_t power_on(void)
+{
+    return sct_power_on(record, sizeof record, private_area, sizeof private_area,
+                        disk, sizeof disk, image, sizeof image, used);
+}
+
+static uint32_t take(uint32_t port)
+{
+    return sct_take(record, sizeof record, port, mailbox[port], sizeof mailbox[port],
+                    private_area, sizeof private_area);
+}
+
+static uint32_t serve(uint32_t port)
+{
+    return sct_serve(record, sizeof record, port, private_area, sizeof private_area,
+                     disk, sizeof disk);
+}
+
+static uint32_t give(uint32_t port)
+{
+    return sct_give(record, sizeof record, port, mailbox[port], sizeof mailbox[port],
+                    private_area, sizeof private_area);
+}
+
+/* A core has rung. */
+static void handle(uint32_t port)
+{
+    EXPECT(take(port) == SCT_DONE);
+    EXPECT(serve(port) == SCT_DONE);
+    EXPECT(give(port) == SCT_DONE);
+}
+
+/* The handler has time for n sectors. */
+static uint32_t work(uint32_t n)
+{
+    uint64_t result = sct_work(record, sizeof record, private_area, sizeof private_area,
+                               disk, sizeof disk, n);
+
+    EXPECT(sct_work_answer(result) == SCT_DONE);
+    return sct_work_sectors(result);
+}
+
+/* ---- What the cores ask, and what they expect ---------------------------- */
+
+enum { COUNT = 2, LBA_LOW = 4, COMMAND = 11, STATUS = 12, ERROR = 13, SECTOR = 16 };
+
+static void put(uint8_t *at, int bytes, uint64_t value)
+{
+    for (int i = 0; i < bytes; i++)
+        at[i] = (uint8_t)(value >> 8 * i);
+}
+
+/* SMART (B0h), read log (D5h) or write log (D6h), log E0h, one sector. */
+static void ask_log(uint32_t port, uint8_t feature)
+{
+    static const uint8_t registers[SCT_REGISTER_BYTES] =
+        { 0, 0, 1, 0, 0xE0, 0, 0x4F, 0, 0xC2, 0, 0, 0xB0 };
+
+    memset(mailbox[port], 0, sizeof mailbox[port]);
+    memcpy(mailbox[port], registers, sizeof registers);
+    mailbox[port][0] = feature;
+}
+
+/* The key of a pattern fill: action 2, function 1; Start 0 and Count 0 mean all. */
+static void ask_fill(uint32_t port, const char *pattern)
+{
+    uint8_t *key = mailbox[port] + SECTOR;
+
+    ask_log(port, 0xD6);
+    put(key, 2, 2);
+    put(key + 2, 2, 1);
+    memcpy(key + 20, pattern, 4);
+}
+
+static void ask_sector(uint32_t port, uint8_t lba)
+{
+    memset(mailbox[port], 0, sizeof mailbox[port]);
+    mailbox[port][COMMAND] = 0x24;
+    mailbox[port][COUNT] = 1;
+    mailbox[port][LBA_LOW] = lba;
+}
+
+/* The reply has this Status and Error, this sector (NULL: zeros), and else 0. */
+static int replied(uint32_t port, uint8_t status, uint8_t error, const uint8_t *sector)
+{
+    uint8_t reply[SCT_MAILBOX_BYTES] = { 0 };
+
+    reply[STATUS] = status;
+    reply[ERROR] = error;
+    if (sector != NULL)
+        memcpy(reply + SECTOR, sector, SCT_SECTOR_BYTES);
+    return memcmp(mailbox[port], reply, sizeof reply) == 0;
+}
+
+struct status {
+    unsigned flag, state, code, action, function, next;
+    uint8_t now, cycle, life;   /* temperatures; 80h is missing */
+};
+
+/* A status read through this port brings this, byte for byte. */
+static void poll(uint32_t port, struct status s)
+{
+    uint8_t sector[SCT_SECTOR_BYTES] = { 2, 0, 1, 0, 1 };
+
+    put(sector + 6, 1, s.flag);
+    put(sector + 10, 1, s.state);
+    put(sector + 14, 2, s.code);
+    put(sector + 16, 2, s.action);
+    put(sector + 18, 2, s.function);
+    put(sector + 40, 8, s.next);
+    sector[200] = s.now;
+    sector[202] = s.cycle;
+    sector[204] = s.life;
+    ask_log(port, 0xD5);
+    handle(port);
+    EXPECT(replied(port, 0x50, 0x00, sector));
+    printf("port %u: code %04Xh, state %u, next %u, flag %u, life %02Xh\n",
+           (unsigned)port, s.code, s.state, s.next, s.flag, s.life);
+}
+
+/* The first sectors are filled, the other visible ones zeros, the hidden ones as they were. */
+static int disk_is(unsigned filled)
+{
+    for (unsigned i = 0; i < sizeof disk; i++) {
+        unsigned sector = i / SCT_SECTOR_BYTES;
+        int byte = sector < filled ? "DEMO"[i % 4] : sector < VISIBLE ? 0 : 'R';
+
+        if (disk[i] != byte)
+            return 0;
+    }
+    return 1;
+}
+
+/* ---- The sequence -------------------------------------------------------- */
+
+/* A new disk shows all its sectors: hide some before the first take. */
+static void start(void)
+{
+    memset(disk + VISIBLE * SCT_SECTOR_BYTES, 'R', (NATIVE - VISIBLE) * SCT_SECTOR_BYTES);
+    EXPECT(power_on() == SCT_DONE);
+    EXPECT(sct_set_visible(record, sizeof record, VISIBLE) == SCT_DONE);
+    printf("power-on of a new disk: %d sectors, %d visible\n", NATIVE, VISIBLE);
+}
+
+/* Core 0 asks for a fill. What it writes after the take comes too late. */
+static void fill_from_core_0(void)
+{
+    ask_fill(0, "DEMO");
+    EXPECT(take(0) == SCT_DONE);
+    memset(mailbox[0], 0xFF, sizeof mailbox[0]);
+    EXPECT(serve(0) == SCT_DONE);
+    EXPECT(give(0) == SCT_DONE);
+    EXPECT(replied(0, 0x50, 0x00, NULL));
+    EXPECT(disk_is(0));
+    printf("port 0: fill accepted\n");
+}
+
+/* The handler works in its idle time; core 1 polls, which does not stop the fill. */
+static void work_off(void)
+{
+    EXPECT(work(10) == 10);
+    EXPECT(disk_is(10));
+    printf("work 10: 10\n");
+    poll(1, (struct status){ 0, 5, 0xFFFF, 2, 1, 10, 0x80, 0x80, 0x80 });
+
+    EXPECT(work(30) == 30);
+    EXPECT(work(30) == 8);
+    EXPECT(work(30) == 0);
+    EXPECT(disk_is(VISIBLE));
+    printf("work 30, three times: 30, 8, 0\n");
+    poll(1, (struct status){ 1, 0, 0x0000, 2, 1, 0, 0x80, 0x80, 0x80 });
+}
+
+static void measure_and_save(void)
+{
+    EXPECT(sct_sample(record, sizeof record, 0x23) == SCT_DONE);
+    EXPECT(sct_save(record, sizeof record, image, sizeof image, used) == SCT_DONE);
+    used += SCT_ENTRY_BYTES;
+    EXPECT(image[0] == NATIVE && image[8] == VISIBLE && image[17] == 0x23);
+    EXPECT(memcmp(image + used - 4, "SCTE", 4) == 0);
+    for (uint64_t i = used; i < sizeof image; i++)
+        EXPECT(image[i] == 0);
+    printf("sample 23h, save: used %u\n", (unsigned)used);
+}
+
+/* Record and private area are lost with the power; disk, image and used length are not. */
+static void start_again(void)
+{
+    memset(record, 0xA5, sizeof record);
+    memset(private_area, 0xA5, sizeof private_area);
+    EXPECT(power_on() == SCT_DONE);
+    printf("power-on from the image\n");
+    poll(1, (struct status){ 1, 0, 0x0000, 0, 0, 0, 0x80, 0x80, 0x23 });
+}
+
+/* A refused request has Status 51h. A refused step has a nonzero answer, and changes nothing. */
+static void refuse(void)
+{
+    uint8_t before[SCT_RECORD_BYTES];
+
+    ask_sector(2, VISIBLE - 1);
+    handle(2);
+    EXPECT(replied(2, 0x50, 0x00, disk + (VISIBLE - 1) * SCT_SECTOR_BYTES));
+    ask_sector(2, VISIBLE);
+    handle(2);
+    EXPECT(replied(2, 0x51, 0x10, NULL));
+    printf("port 2: sector %d read, sector %d refused\n", VISIBLE - 1, VISIBLE);
+
+    memcpy(before, record, sizeof record);
+    EXPECT(give(3) == SCT_STAGE);
+    EXPECT(sct_set_visible(record, sizeof record, NATIVE + 1) == SCT_VALUE);
+    EXPECT(sct_lock(record, sizeof record - 1) == SCT_RECORD);
+    EXPECT(memcmp(before, record, sizeof record) == 0);
+    EXPECT(disk_is(VISIBLE));
+    printf("answers %d, %d, %d\n", SCT_STAGE, SCT_VALUE, SCT_RECORD);
+}
+
+int main(void)
+{
+    start();
+    fill_from_core_0();
+    work_off();
+    measure_and_save();
+    start_again();
+    refuse();
+    return 0;
+}

@@ -1,0 +1,1514 @@
+/*
+ * reference.c - a plain reading of the scope paper, to test the archive
+ * against and to be read beside it.
+ *
+ * It has the archive's ten entries (prefix ref_) over the archive's buffers,
+ * and gives the same bytes. Each section quotes the sentences it follows. The
+ * offsets in the record are those of docs/record-layout.md.
+ *
+ * Two of the paper's words have other names here: an "owed" transfer is a
+ * pending transfer, and a feature's "mark" says whether it is persistent.
+ *
+ * The entries stand at the end, in the order of sct_disk.h. Each opens the
+ * record into a struct, refuses in the paper's order, decides, and writes the
+ * struct back.
+ */
+#include "reference.h"
+
+#include <stdbool.h>
+#include <string.h>
+
+/*
+ * Planted faults, to see whether a test finds them: -DPLANT=n builds fault n
+ * in. Without PLANT there is none, and PLANTED(n) is 0.
+ *
+ *   n   fault
+ *   1   a fill may start at V (a bound is off by one)
+ *   2   Start + Count is added in 64 bits
+ *   3   temperatures are compared unsigned
+ *   4   a refused E1h keeps the pending transfer
+ *   5   a feature's option (000Fh) is judged before its state (000Eh)
+ *   6   a fill goes on after V was set
+ *   7   another port may collect a pending transfer
+ *   8   34h does not clear the flag
+ *   9   setting feature 3 does not empty the history
+ *  10   power-on keeps the history though the interval has changed
+ *  11   a saved entry names the wrong place of the previous trailer
+ *  12   work with n = 0 reports one sector
+ *  13   Count is fetched from the mailbox again while serving
+ *  14   a well-formed status read stops the fill
+ *  15   the end of any fill from 0 sets the flag
+ *  16   a missing sample does not count as a minute
+ *  17   only the newest entry of an image is judged
+ *  18   the port is judged before the lengths
+ *  19   one spare byte of the record is not judged
+ *  20   power-on does not clear the fill sector
+ *  21   a feature set with option 0 stays persistent if it was
+ *  22   a full image is answered before another disk's
+ *  23   the history wraps one reading early
+ *  24   only 32 bits of a sector's LBA are compared
+ */
+#ifdef PLANT
+#define PLANTED(n) (PLANT == (n))
+#else
+#define PLANTED(n) 0
+#endif
+
+/* ======================================================================== */
+/* Bytes                                                                    */
+/* ======================================================================== */
+
+/* "Multi-byte numbers have their low byte first." */
+
+static inline uint16_t load16(const uint8_t *at)
+{
+    return (uint16_t)(at[0] | at[1] << 8);
+}
+
+static inline uint32_t load32(const uint8_t *at)
+{
+    return (uint32_t)at[0] | (uint32_t)at[1] << 8 | (uint32_t)at[2] << 16 | (uint32_t)at[3] << 24;
+}
+
+static inline uint64_t load64(const uint8_t *at)
+{
+    return (uint64_t)load32(at) | (uint64_t)load32(at + 4) << 32;
+}
+
+static inline void store16(uint8_t *at, uint16_t value)
+{
+    at[0] = (uint8_t)value;
+    at[1] = (uint8_t)(value >> 8);
+}
+
+static inline void store32(uint8_t *at, uint32_t value)
+{
+    at[0] = (uint8_t)value;
+    at[1] = (uint8_t)(value >> 8);
+    at[2] = (uint8_t)(value >> 16);
+    at[3] = (uint8_t)(value >> 24);
+}
+
+static inline void store64(uint8_t *at, uint64_t value)
+{
+    store32(at, (uint32_t)value);
+    store32(at + 4, (uint32_t)(value >> 32));
+}
+
+/* Eight bytes at a time, as the record has hundreds of spare bytes. */
+static bool all_zero(const uint8_t *at, size_t count)
+{
+    uint64_t seen = 0;
+    size_t i = 0;
+
+    for (; i + 8 <= count; i += 8) {
+        uint64_t eight;
+        memcpy(&eight, at + i, 8);
+        seen |= eight;
+    }
+    for (; i < count; i++)
+        seen |= at[i];
+    return seen == 0;
+}
+
+/* ======================================================================== */
+/* The device                                                               */
+/* ======================================================================== */
+
+/*
+ * "It holds the disk, for each port nothing, a request or a reply, and the
+ * device: N, V, lock, flag, code, action, function, timers, features, marks,
+ * temperatures, history, index, minutes, any fill (first, next, end, sector)
+ * and owed transfer."
+ *
+ * The history's 478 bytes stay in the record, the fill's sector and the
+ * slots' bytes in the private area: they are worked on in place.
+ */
+
+enum stage { EMPTY, HELD, ANSWERED, STAGES };
+
+enum transfer { NO_TRANSFER, SEND_TABLE, RECEIVE_FILL_SECTOR, TRANSFERS };
+
+enum { READ_TIMER, WRITE_TIMER, TIMERS };
+
+enum { WRITE_CACHE, REORDERING, LOG_INTERVAL, FEATURES };
+
+struct port {
+    uint8_t  stage;
+    uint8_t  pending;           /* pending transfer of this port */
+    uint64_t first, end;        /* of a pending fill, else 0 */
+};
+
+struct device {
+    uint64_t native, visible;
+    uint8_t  locked;
+    uint8_t  initialized;       /* the Segment Initialized flag */
+    uint8_t  filling;
+    uint64_t first, next, end;  /* of the running fill, else 0 */
+    uint16_t code, action, function;
+    uint16_t timer[TIMERS];
+    uint16_t state[FEATURES];   /* state[LOG_INTERVAL] stands in the table */
+    uint8_t  persistent[FEATURES];
+    uint16_t minutes;
+    uint8_t  now, cycle_maximum, life_maximum;
+    uint16_t index;             /* of the newest reading; stands in the table */
+    struct port port[SCT_PORTS];
+};
+
+#define CODE_DONE     0x0000u
+#define CODE_STOPPED  0x0008u
+#define CODE_RUNNING  0xFFFFu
+
+#define DEFAULT_TIMER 0u        /* "Timers return to 0 at power-on." */
+#define DEFAULT_STATE 1u        /* "other states return to 1" */
+
+/* Offsets in the record. */
+enum {
+    AT_NATIVE = 0, AT_VISIBLE = 8, AT_LOCKED = 16, AT_INITIALIZED = 17, AT_FILLING = 18,
+    AT_CODE = 20, AT_ACTION = 22, AT_FUNCTION = 24, AT_TIMERS = 26, AT_STATES = 30,
+    AT_PERSISTENT = 34, AT_MINUTES = 38, AT_NOW = 40, AT_CYCLE = 41, AT_LIFE = 42,
+    AT_FIRST = 48, AT_NEXT = 56, AT_END = 64,
+    AT_PORTS = 72, PORT_BYTES = 24, PORT_STAGE = 0, PORT_PENDING = 1, PORT_FIRST = 8, PORT_END = 16,
+    AT_TABLE = 512
+};
+
+/* Offsets in the temperature table (document 001, Table 19). */
+enum {
+    TABLE_FORMAT = 0, TABLE_PERIOD = 2, TABLE_INTERVAL = 4, TABLE_LIMITS = 6, TABLE_ZEROS = 10,
+    TABLE_SIZE = 30, TABLE_INDEX = 32, TABLE_HISTORY = 34, HISTORY_SIZE = 478
+};
+
+/* The private area: "four slots of 528, then the fill sector". */
+#define SLOT(area, number)  ((area) + (size_t)SCT_MAILBOX_BYTES * (number))
+#define FILL_SECTOR(area)   ((area) + (size_t)SCT_MAILBOX_BYTES * SCT_PORTS)
+
+static void read_port(struct port *port, const uint8_t *at)
+{
+    port->stage = at[PORT_STAGE];
+    port->pending = at[PORT_PENDING];
+    port->first = load64(at + PORT_FIRST);
+    port->end = load64(at + PORT_END);
+}
+
+static void read_device(struct device *d, const uint8_t *record)
+{
+    const uint8_t *table = record + AT_TABLE;
+
+    d->native = load64(record + AT_NATIVE);
+    d->visible = load64(record + AT_VISIBLE);
+    d->locked = record[AT_LOCKED];
+    d->initialized = record[AT_INITIALIZED];
+    d->filling = record[AT_FILLING];
+    d->first = load64(record + AT_FIRST);
+    d->next = load64(record + AT_NEXT);
+    d->end = load64(record + AT_END);
+    d->code = load16(record + AT_CODE);
+    d->action = load16(record + AT_ACTION);
+    d->function = load16(record + AT_FUNCTION);
+    d->timer[READ_TIMER] = load16(record + AT_TIMERS);
+    d->timer[WRITE_TIMER] = load16(record + AT_TIMERS + 2);
+    d->state[WRITE_CACHE] = load16(record + AT_STATES);
+    d->state[REORDERING] = load16(record + AT_STATES + 2);
+    d->state[LOG_INTERVAL] = load16(table + TABLE_INTERVAL);
+    for (int f = 0; f < FEATURES; f++)
+        d->persistent[f] = record[AT_PERSISTENT + f];
+    d->minutes = load16(record + AT_MINUTES);
+    d->now = record[AT_NOW];
+    d->cycle_maximum = record[AT_CYCLE];
+    d->life_maximum = record[AT_LIFE];
+    d->index = load16(table + TABLE_INDEX);
+    for (unsigned p = 0; p < SCT_PORTS; p++)
+        read_port(&d->port[p], record + AT_PORTS + PORT_BYTES * p);
+}
+
+static void write_port(uint8_t *at, const struct port *port)
+{
+    at[PORT_STAGE] = port->stage;
+    at[PORT_PENDING] = port->pending;
+    store64(at + PORT_FIRST, port->first);
+    store64(at + PORT_END, port->end);
+}
+
+/* Writes the fields alone: spare bytes and the rest of the table stay. */
+static void write_device(uint8_t *record, const struct device *d)
+{
+    uint8_t *table = record + AT_TABLE;
+
+    store64(record + AT_NATIVE, d->native);
+    store64(record + AT_VISIBLE, d->visible);
+    record[AT_LOCKED] = d->locked;
+    record[AT_INITIALIZED] = d->initialized;
+    record[AT_FILLING] = d->filling;
+    store64(record + AT_FIRST, d->first);
+    store64(record + AT_NEXT, d->next);
+    store64(record + AT_END, d->end);
+    store16(record + AT_CODE, d->code);
+    store16(record + AT_ACTION, d->action);
+    store16(record + AT_FUNCTION, d->function);
+    store16(record + AT_TIMERS, d->timer[READ_TIMER]);
+    store16(record + AT_TIMERS + 2, d->timer[WRITE_TIMER]);
+    store16(record + AT_STATES, d->state[WRITE_CACHE]);
+    store16(record + AT_STATES + 2, d->state[REORDERING]);
+    store16(table + TABLE_INTERVAL, d->state[LOG_INTERVAL]);
+    for (int f = 0; f < FEATURES; f++)
+        record[AT_PERSISTENT + f] = d->persistent[f];
+    store16(record + AT_MINUTES, d->minutes);
+    record[AT_NOW] = d->now;
+    record[AT_CYCLE] = d->cycle_maximum;
+    record[AT_LIFE] = d->life_maximum;
+    store16(table + TABLE_INDEX, d->index);
+    for (unsigned p = 0; p < SCT_PORTS; p++)
+        write_port(record + AT_PORTS + PORT_BYTES * p, &d->port[p]);
+}
+
+/* ======================================================================== */
+/* Values in range (records, image entries and keys share these)            */
+/* ======================================================================== */
+
+/* "Disk: a lent run of 1 to 65,536 sectors"; "Visible size V is 1 to N". */
+static bool sizes_in_range(uint64_t native, uint64_t visible)
+{
+    return 1 <= visible && visible <= native && native <= SCT_NATIVE_LIMIT;
+}
+
+/*
+ * "Feature states: 1 (write cache) 1 to 3; 2 (reordering) 1 or 2; 3 (log
+ * interval) 1 to 65,535 minutes."
+ */
+static bool state_in_range(int feature, uint16_t state)
+{
+    static const uint16_t highest[FEATURES] = { 3, 2, 65535 };
+
+    return 1 <= state && state <= highest[feature];
+}
+
+static bool states_in_range(const uint16_t state[FEATURES])
+{
+    return state_in_range(WRITE_CACHE, state[WRITE_CACHE]) &&
+           state_in_range(REORDERING, state[REORDERING]) &&
+           state_in_range(LOG_INTERVAL, state[LOG_INTERVAL]);
+}
+
+/* "each timer is 0 or at least 10" */
+static bool timer_in_range(uint16_t timer)
+{
+    return timer == 0 || timer >= 10;
+}
+
+/* ======================================================================== */
+/* The temperature table                                                    */
+/* ======================================================================== */
+
+/*
+ * "Table (document 001, Table 19): 0002h; period 1; interval; bytes 6-9 =
+ * 3Ch, 46h, 05h, F6h; zeros; size 478 at 30; index at 32; history from 34."
+ */
+
+static const uint8_t table_limits[4] = { 0x3C, 0x46, 0x05, 0xF6 };
+
+/* All but the interval, which is judged with the features. */
+static bool table_holds(const uint8_t *table)
+{
+    return load16(table + TABLE_FORMAT) == 2 &&
+           load16(table + TABLE_PERIOD) == 1 &&
+           memcmp(table + TABLE_LIMITS, table_limits, sizeof table_limits) == 0 &&
+           all_zero(table + TABLE_ZEROS, TABLE_SIZE - TABLE_ZEROS) &&
+           load16(table + TABLE_SIZE) == HISTORY_SIZE &&
+           load16(table + TABLE_INDEX) < HISTORY_SIZE;
+}
+
+static void write_table_constants(uint8_t *table)
+{
+    store16(table + TABLE_FORMAT, 2);
+    store16(table + TABLE_PERIOD, 1);
+    memcpy(table + TABLE_LIMITS, table_limits, sizeof table_limits);
+    memset(table + TABLE_ZEROS, 0, TABLE_SIZE - TABLE_ZEROS);
+    store16(table + TABLE_SIZE, HISTORY_SIZE);
+}
+
+/* "Bytes are two's complement; 80h means missing." */
+#define MISSING 0x80u
+
+/* "Empty history is all 80h, index 477, minutes 0" */
+static void empty_history(struct device *d, uint8_t *table)
+{
+    memset(table + TABLE_HISTORY, MISSING, HISTORY_SIZE);
+    d->index = HISTORY_SIZE - 1;
+    d->minutes = 0;
+}
+
+/* "a reading is logged at index + 1, and 0 follows 477" */
+static void log_reading(struct device *d, uint8_t *table, uint8_t reading)
+{
+    unsigned next = d->index + 1u;
+    unsigned size = PLANTED(23) ? HISTORY_SIZE - 1 : HISTORY_SIZE;
+
+    d->index = (uint16_t)(next < size ? next : 0);
+    table[TABLE_HISTORY + d->index] = reading;
+}
+
+static int degrees(uint8_t byte)
+{
+    return byte < 0x80 || PLANTED(3) ? byte : byte - 0x100;
+}
+
+/* "A missing maximum takes the first real sample." */
+static uint8_t higher(uint8_t maximum, uint8_t reading)
+{
+    return maximum == MISSING || degrees(reading) > degrees(maximum) ? reading : maximum;
+}
+
+/*
+ * "One sample is one minute. A missing sample sets "now" missing and moves no
+ * maximum. [..] When the minutes reach the interval, the sample (missing too)
+ * is logged and the minutes restart."
+ */
+static void take_sample(struct device *d, uint8_t *table, uint8_t reading)
+{
+    d->now = reading;
+    if (reading != MISSING) {
+        d->cycle_maximum = higher(d->cycle_maximum, reading);
+        d->life_maximum = higher(d->life_maximum, reading);
+    } else if (PLANTED(16)) {
+        return;
+    }
+    if (d->minutes + 1 >= d->state[LOG_INTERVAL]) {
+        log_reading(d, table, reading);
+        d->minutes = 0;
+    } else {
+        d->minutes++;
+    }
+}
+
+/* ======================================================================== */
+/* Sound records                                                            */
+/* ======================================================================== */
+
+/* "if a fill runs, first <= next < end <= V"; its fields are zero otherwise. */
+static bool fill_sound(const struct device *d)
+{
+    if (d->filling)
+        return d->first <= d->next && d->next < d->end && d->end <= d->visible;
+    return d->first == 0 && d->next == 0 && d->end == 0;
+}
+
+/* "an owed fill has first < end <= V" */
+static bool port_sound(const struct device *d, const struct port *port)
+{
+    if (port->stage >= STAGES || port->pending >= TRANSFERS)
+        return false;
+    if (port->pending == RECEIVE_FILL_SECTOR)
+        return port->first < port->end && port->end <= d->visible;
+    return port->first == 0 && port->end == 0;
+}
+
+/* "a fill and an owed transfer never coexist", nor do two transfers. */
+static bool ports_sound(const struct device *d)
+{
+    unsigned busy = d->filling;
+
+    for (unsigned p = 0; p < SCT_PORTS; p++) {
+        if (!port_sound(d, &d->port[p]))
+            return false;
+        busy += d->port[p].pending != NO_TRANSFER;
+    }
+    return busy <= 1;
+}
+
+/*
+ * "every stage, port, mark, flag and feature state has one of its named
+ * values": the one-byte fields that are 0 or 1.
+ */
+static bool flags_sound(const struct device *d)
+{
+    return d->locked <= 1 && d->initialized <= 1 && d->filling <= 1 &&
+           d->persistent[WRITE_CACHE] <= 1 && d->persistent[REORDERING] <= 1 &&
+           d->persistent[LOG_INTERVAL] <= 1;
+}
+
+/* "spare bytes are zero" */
+static bool spare_bytes_zero(const uint8_t *record)
+{
+    const uint8_t *rest = record + AT_PORTS + PORT_BYTES * SCT_PORTS;
+    size_t count = (size_t)(record + AT_TABLE - rest);
+
+    for (unsigned p = 0; p < SCT_PORTS; p++)
+        if (!all_zero(record + AT_PORTS + PORT_BYTES * p + PORT_PENDING + 1, PORT_FIRST - PORT_PENDING - 1))
+            return false;
+    return record[AT_FILLING + 1] == 0 &&
+           record[AT_PERSISTENT + FEATURES] == 0 &&
+           all_zero(record + AT_LIFE + 1, AT_FIRST - AT_LIFE - 1) &&
+           all_zero(rest, PLANTED(19) ? count - 1 : count);
+}
+
+/*
+ * "A record is sound when: it has 1,024 bytes; 1 <= V <= N <= 65,536; [..] the
+ * stored code is FFFFh exactly while a fill runs; each timer is 0 or at least
+ * 10; the interval is 1 or more, minutes counted are below it, the history
+ * index is at most 477".
+ */
+static bool device_sound(const struct device *d, const uint8_t *record)
+{
+    return sizes_in_range(d->native, d->visible) &&
+           flags_sound(d) &&
+           fill_sound(d) &&
+           ports_sound(d) &&
+           (d->code == CODE_RUNNING) == (d->filling == 1) &&
+           timer_in_range(d->timer[READ_TIMER]) &&
+           timer_in_range(d->timer[WRITE_TIMER]) &&
+           states_in_range(d->state) &&
+           d->minutes < d->state[LOG_INTERVAL] &&
+           table_holds(record + AT_TABLE) &&
+           spare_bytes_zero(record);
+}
+
+/* Opens a record into d. False: it is unsound (answer 4). */
+static bool open_record(struct device *d, const uint8_t *record, size_t length)
+{
+    if (length != SCT_RECORD_BYTES)
+        return false;
+    read_device(d, record);
+    return device_sound(d, record);
+}
+
+/* ======================================================================== */
+/* Fills, pending transfers and the flag                                    */
+/* ======================================================================== */
+
+static void clear_fill(struct device *d)
+{
+    d->filling = 0;
+    d->first = d->next = d->end = 0;
+}
+
+static void start_fill(struct device *d, uint64_t first, uint64_t end)
+{
+    d->filling = 1;
+    d->first = d->next = first;
+    d->end = end;
+    d->code = CODE_RUNNING;
+}
+
+static void clear_pending(struct port *port)
+{
+    port->pending = NO_TRANSFER;
+    port->first = port->end = 0;
+}
+
+/*
+ * "Every request but a well-formed status read first stops a running fill
+ * (code 0008h) and drops an owed transfer [..]. Locking, unlocking and setting
+ * V do the same as other requests."
+ */
+static void stop_and_drop(struct device *d)
+{
+    if (d->filling) {
+        clear_fill(d);
+        d->code = CODE_STOPPED;
+    }
+    for (unsigned p = 0; p < SCT_PORTS; p++)
+        clear_pending(&d->port[p]);
+}
+
+/*
+ * "A running fill stores FFFFh; its last sector stores 0000h. The Segment
+ * Initialized flag is [..] set when a fill from 0 to the last user LBA ends."
+ */
+static void end_fill(struct device *d)
+{
+    if (d->first == 0 && (d->end == d->visible || PLANTED(15)))
+        d->initialized = 1;
+    d->code = CODE_DONE;
+    clear_fill(d);
+}
+
+static void write_sector(struct device *d, uint8_t *disk, uint64_t lba, const uint8_t *sector)
+{
+    memcpy(disk + lba * SCT_SECTOR_BYTES, sector, SCT_SECTOR_BYTES);
+    d->initialized = 0;     /* "cleared by any sector written" */
+}
+
+/*
+ * "Work writes the fill's sector to the k places from next on and moves next
+ * by k, where k is the lesser of n and end - next (0 with no fill); at end the
+ * fill is over."
+ */
+static uint32_t advance_fill(struct device *d, uint8_t *disk, const uint8_t *sector, uint32_t n)
+{
+    uint64_t left = d->end - d->next;
+    uint32_t k = n < left ? n : (uint32_t)left;
+
+    for (uint32_t i = 0; i < k; i++)
+        write_sector(d, disk, d->next + i, sector);
+    d->next += k;
+    if (d->filling && d->next == d->end)
+        end_fill(d);
+    return k;
+}
+
+/* ======================================================================== */
+/* Requests and replies                                                     */
+/* ======================================================================== */
+
+/*
+ * "Bytes: 0/1 Features current/previous, 2/3 Sector Count, 4/5 LBA Low, 6/7
+ * LBA Mid, 8/9 LBA High, 10 Device, 11 Command, 12 Status, 13 Error, 14 and 15
+ * zero."
+ */
+enum {
+    FEATURES_NOW = 0, COUNT_NOW = 2, LOW_NOW = 4, LOW_BEFORE = 5, MID_NOW = 6, MID_BEFORE = 7,
+    HIGH_NOW = 8, HIGH_BEFORE = 9, COMMAND = 11, STATUS = 12, ERROR = 13
+};
+
+enum kind {
+    STATUS_READ, KEY_WRITE, DATA_READ, DATA_WRITE, SECTOR_READ, SECTOR_WRITE, NO_SUCH_REQUEST
+};
+
+struct request {
+    enum kind kind;
+    uint16_t  count;
+    uint64_t  lba;
+};
+
+/*
+ * "Write E0h: key sector. Read E0h: status. E1h: data." and "All else, and E0h
+ * with another count: Error 04h".
+ */
+static enum kind log_kind(uint8_t log, bool is_read, uint16_t count)
+{
+    if (log == 0xE1)
+        return is_read ? DATA_READ : DATA_WRITE;
+    if (log == 0xE0 && count == 1)
+        return is_read ? STATUS_READ : KEY_WRITE;
+    return NO_SUCH_REQUEST;
+}
+
+/*
+ * "B0h, Features D5h (read log) or D6h (write log), LBA Mid 4Fh, High C2h [..]
+ * Sector Count is 1": for B0h the previous bytes are ignored.
+ */
+static struct request smart_request(const uint8_t *registers)
+{
+    uint8_t feature = registers[FEATURES_NOW];
+    struct request r = { NO_SUCH_REQUEST, registers[COUNT_NOW], 0 };
+
+    if ((feature == 0xD5 || feature == 0xD6) &&
+        registers[MID_NOW] == 0x4F && registers[HIGH_NOW] == 0xC2)
+        r.kind = log_kind(registers[LOW_NOW], feature == 0xD5, r.count);
+    return r;
+}
+
+/*
+ * "or 2Fh (read) or 3Fh (write) with both LBA Mid bytes 0. LBA Low (current)
+ * E0h or E1h. Sector Count is 1 (16 bits for 2Fh and 3Fh)."
+ */
+static struct request log_request(const uint8_t *registers)
+{
+    struct request r = { NO_SUCH_REQUEST, load16(registers + COUNT_NOW), 0 };
+
+    if (registers[MID_NOW] == 0 && registers[MID_BEFORE] == 0)
+        r.kind = log_kind(registers[LOW_NOW], registers[COMMAND] == 0x2F, r.count);
+    return r;
+}
+
+/*
+ * "24h and 34h: read or write one sector at the 48-bit LBA, previous bytes
+ * giving bits 24 to 47 (document 004). Count (16 bits) [..]"
+ */
+static struct request sector_request(const uint8_t *registers)
+{
+    struct request r;
+
+    r.kind = registers[COMMAND] == 0x24 ? SECTOR_READ : SECTOR_WRITE;
+    r.count = load16(registers + COUNT_NOW);
+    r.lba = (uint64_t)registers[LOW_NOW] |
+            (uint64_t)registers[MID_NOW] << 8 |
+            (uint64_t)registers[HIGH_NOW] << 16 |
+            (uint64_t)registers[LOW_BEFORE] << 24 |
+            (uint64_t)registers[MID_BEFORE] << 32 |
+            (uint64_t)registers[HIGH_BEFORE] << 40;
+    if (PLANTED(24))
+        r.lba &= 0xFFFFFFFFu;
+    return r;
+}
+
+static struct request read_registers(const uint8_t *registers)
+{
+    static const struct request none = { NO_SUCH_REQUEST, 0, 0 };
+
+    switch (registers[COMMAND]) {
+    case 0xB0: return smart_request(registers);
+    case 0x2F:
+    case 0x3F: return log_request(registers);
+    case 0x24:
+    case 0x34: return sector_request(registers);
+    default:   return none;
+    }
+}
+
+#define ABORTED       0x04u
+#define ID_NOT_FOUND  0x10u
+
+struct reply {
+    uint8_t  error;     /* 0: good */
+    uint16_t value;     /* "in Sector Count (low) and LBA Low (high)" */
+    uint8_t  sectors;   /* "LBA Mid is 1 if a sector is owed" */
+    bool     data;      /* the slot's sector is already the reply's */
+};
+
+static struct reply good(uint16_t value)
+{
+    return (struct reply){ 0, value, 0, false };
+}
+
+static struct reply good_with_data(void)
+{
+    return (struct reply){ 0, 0, 0, true };
+}
+
+static struct reply good_with_transfer(void)
+{
+    return (struct reply){ 0, 0, 1, false };
+}
+
+/* A refusal without an extended code. */
+static struct reply refused(uint8_t error)
+{
+    return (struct reply){ error, 0, 0, false };
+}
+
+/*
+ * "SCT refusals have Error 04h and the extended code in Sector Count (low) and
+ * LBA Low (high)."
+ */
+static struct reply sct_refused(uint16_t code)
+{
+    return (struct reply){ ABORTED, code, 0, false };
+}
+
+/* The same, and the code is stored. */
+static struct reply sct_refused_stored(struct device *d, uint16_t code)
+{
+    d->code = code;
+    return sct_refused(code);
+}
+
+/*
+ * "Good: Status 50h, Error 0. Refused: Status 51h [..] In a reply every byte
+ * not named is 0, and the sector is zeros unless data is returned."
+ */
+static void write_reply(uint8_t *slot, struct reply reply)
+{
+    memset(slot, 0, SCT_REGISTER_BYTES);
+    slot[COUNT_NOW] = (uint8_t)reply.value;
+    slot[LOW_NOW] = (uint8_t)(reply.value >> 8);
+    slot[MID_NOW] = reply.sectors;
+    slot[STATUS] = reply.error ? 0x51 : 0x50;
+    slot[ERROR] = reply.error;
+    if (!reply.data)
+        memset(slot + SCT_REGISTER_BYTES, 0, SCT_SECTOR_BYTES);
+}
+
+/* What one serve works on. */
+struct service {
+    struct device *device;
+    uint8_t       *table;           /* the temperature table in the record */
+    uint8_t       *slot;            /* the request, later the reply */
+    uint8_t       *sector;          /* the sector in the slot */
+    uint8_t       *fill_sector;
+    uint8_t       *disk;
+    struct port   *port;
+    struct port    before;          /* the port as it was before the request */
+};
+
+/* ======================================================================== */
+/* Keys                                                                     */
+/* ======================================================================== */
+
+/* Extended codes of refusals. */
+enum {
+    BAD_FUNCTION = 0x0001, BAD_RANGE = 0x0002, BAD_TRANSFER_COUNT = 0x0003,
+    BAD_TIMER_FUNCTION = 0x0004, BAD_TIMER = 0x0005, BAD_READ_TIMER = 0x0006, BAD_WRITE_TIMER = 0x0007,
+    NO_TRANSFER_PENDING = 0x000B, BAD_FEATURE_FUNCTION = 0x000C, BAD_FEATURE = 0x000D,
+    BAD_STATE = 0x000E, BAD_OPTION = 0x000F, BAD_ACTION = 0x0010, BAD_TABLE = 0x0011, LOCKED = 0x0012
+};
+
+enum { FILL = 2, TIMER = 3, FEATURE = 4, TABLE = 5 };           /* actions */
+enum { FILL_PATTERN = 1, FILL_SECTOR = 2 };                     /* functions */
+enum { TIMER_SET = 1, TIMER_RETURN = 2 };
+enum { FEATURE_SET = 1, FEATURE_STATE = 2, FEATURE_OPTIONS = 3 };
+
+/* "Start bytes 4-11, Count 12-19", "bytes 20-23 repeated 128 times". */
+enum { KEY_START = 4, KEY_COUNT = 12, KEY_PATTERN = 20, PATTERN_BYTES = 4 };
+
+static uint16_t word(const uint8_t *key, int number)
+{
+    return load16(key + 2 * number);
+}
+
+/* Each judge_ function gives the code of the refusal, or 0: accepted. */
+
+/*
+ * "Start above last user LBA, or Start + Count above last user LBA: 0002h".
+ * "Start + Count is a whole-number sum; it never wraps": so Count is compared
+ * with what is left behind Start.
+ */
+static uint16_t judge_fill(const struct device *d, const uint8_t *key)
+{
+    uint64_t last = d->visible - 1;
+    uint64_t start = load64(key + KEY_START);
+    uint64_t count = load64(key + KEY_COUNT);
+    uint16_t function = word(key, 1);
+
+    if (function != FILL_PATTERN && function != FILL_SECTOR)
+        return BAD_FUNCTION;
+    if (start > (PLANTED(1) ? last + 1 : last))
+        return BAD_RANGE;
+    if (PLANTED(2) ? start + count > last : count > last - start)
+        return BAD_RANGE;
+    return 0;
+}
+
+/*
+ * "1 set, 2 return; else 0004h", "word 2 is 1 read or 2 write, else 0005h;
+ * set: word 3 in 100 ms, 1 to 9 gives 0006h (read) or 0007h (write); 0 is off"
+ */
+static uint16_t judge_timer(const uint8_t *key)
+{
+    uint16_t function = word(key, 1);
+    uint16_t which = word(key, 2);
+
+    if (function != TIMER_SET && function != TIMER_RETURN)
+        return BAD_TIMER_FUNCTION;
+    if (which != 1 && which != 2)
+        return BAD_TIMER;
+    if (function == TIMER_SET && !timer_in_range(word(key, 3)))
+        return which == 1 ? BAD_READ_TIMER : BAD_WRITE_TIMER;
+    return 0;
+}
+
+/* "set only: word 3 invalid 000Eh, then word 4 other than 0 or 1 000Fh" */
+static uint16_t judge_feature_set(int feature, const uint8_t *key)
+{
+    if (PLANTED(5) && word(key, 4) > 1)
+        return BAD_OPTION;
+    if (!state_in_range(feature, word(key, 3)))
+        return BAD_STATE;
+    if (word(key, 4) > 1)
+        return BAD_OPTION;
+    return 0;
+}
+
+/* "1 set, 2 state, 3 options; else 000Ch", "word 2 is 1 to 3, else 000Dh" */
+static uint16_t judge_feature(const uint8_t *key)
+{
+    uint16_t function = word(key, 1);
+    uint16_t feature = word(key, 2);
+
+    if (function < FEATURE_SET || function > FEATURE_OPTIONS)
+        return BAD_FEATURE_FUNCTION;
+    if (feature < 1 || feature > FEATURES)
+        return BAD_FEATURE;
+    return function == FEATURE_SET ? judge_feature_set(feature - 1, key) : 0;
+}
+
+/* "1; else 0001h", "word 2 is 2, else 0011h" */
+static uint16_t judge_table(const uint8_t *key)
+{
+    if (word(key, 1) != 1)
+        return BAD_FUNCTION;
+    return word(key, 2) == 2 ? 0 : BAD_TABLE;
+}
+
+/* "any, locked: 0012h", "not 2 to 5: 0010h" */
+static uint16_t judge_key(const struct device *d, const uint8_t *key)
+{
+    if (d->locked)
+        return LOCKED;
+    switch (word(key, 0)) {
+    case FILL:    return judge_fill(d, key);
+    case TIMER:   return judge_timer(key);
+    case FEATURE: return judge_feature(key);
+    case TABLE:   return judge_table(key);
+    default:      return BAD_ACTION;
+    }
+}
+
+/*
+ * "Count 0 means up to the last user LBA." "Pattern fill starts at once: bytes
+ * 20-23 repeated 128 times." Function 2 waits for its sector.
+ */
+static struct reply accept_fill(struct service *s)
+{
+    const uint8_t *key = s->sector;
+    uint64_t start = load64(key + KEY_START);
+    uint64_t count = load64(key + KEY_COUNT);
+    uint64_t end = count == 0 ? s->device->visible : start + count;
+
+    if (word(key, 1) == FILL_SECTOR) {
+        s->port->pending = RECEIVE_FILL_SECTOR;
+        s->port->first = start;
+        s->port->end = end;
+        return good_with_transfer();
+    }
+    for (unsigned i = 0; i < SCT_SECTOR_BYTES; i += PATTERN_BYTES)
+        memcpy(s->fill_sector + i, key + KEY_PATTERN, PATTERN_BYTES);
+    start_fill(s->device, start, end);
+    return good(0);
+}
+
+static struct reply accept_timer(struct device *d, const uint8_t *key)
+{
+    uint16_t *timer = &d->timer[word(key, 2) == 1 ? READ_TIMER : WRITE_TIMER];
+
+    if (word(key, 1) == TIMER_RETURN)
+        return good(*timer);
+    *timer = word(key, 3);
+    return good(0);
+}
+
+/*
+ * "The value asked for by timers 2 and feature 2 or 3 (the mark, 0 or 1)
+ * stands in Sector Count (low) and LBA Low (high)". "Any set of feature 3
+ * empties the temperature history."
+ */
+static struct reply accept_feature(struct service *s)
+{
+    const uint8_t *key = s->sector;
+    struct device *d = s->device;
+    int feature = word(key, 2) - 1;
+
+    if (word(key, 1) == FEATURE_STATE)
+        return good(d->state[feature]);
+    if (word(key, 1) == FEATURE_OPTIONS)
+        return good(d->persistent[feature]);
+    d->state[feature] = word(key, 3);
+    if (PLANTED(21))
+        d->persistent[feature] |= (uint8_t)word(key, 4);
+    else
+        d->persistent[feature] = (uint8_t)word(key, 4);
+    if (feature == LOG_INTERVAL) {
+        if (PLANTED(9))
+            d->minutes = 0;
+        else
+            empty_history(d, s->table);
+    }
+    return good(0);
+}
+
+static struct reply accept_table(struct port *port)
+{
+    port->pending = SEND_TABLE;
+    return good_with_transfer();
+}
+
+/*
+ * "Words 0 and 1 are action and function; both are recorded from every key,
+ * accepted or not." "A refused key stores its code. An accepted key stores
+ * 0000h, a pattern fill FFFFh."
+ */
+static struct reply serve_key(struct service *s)
+{
+    struct device *d = s->device;
+    const uint8_t *key = s->sector;
+    uint16_t code = judge_key(d, key);
+
+    d->action = word(key, 0);
+    d->function = word(key, 1);
+    if (code != 0)
+        return sct_refused_stored(d, code);
+    d->code = CODE_DONE;
+    switch (d->action) {
+    case FILL:    return accept_fill(s);
+    case TIMER:   return accept_timer(d, key);
+    case FEATURE: return accept_feature(s);
+    default:      return accept_table(s->port);
+    }
+}
+
+/* ======================================================================== */
+/* Status, data transfers, single sectors                                   */
+/* ======================================================================== */
+
+/*
+ * "Table 11 of document 001: format 0002h; version 0001h at 2; spec 0001h at
+ * 4; flag bit 0 at 6; state at 10 (0, or 5 with a fill); code 14; action 16;
+ * function 18; LBA 40-47 the next sector, 0 with no fill; temperatures at 200
+ * (now), 202 (this power cycle), 204 (life). All else 0."
+ */
+static void write_status(uint8_t *sector, const struct device *d)
+{
+    memset(sector, 0, SCT_SECTOR_BYTES);
+    store16(sector, 2);
+    store16(sector + 2, 1);
+    store16(sector + 4, 1);
+    sector[6] = d->initialized;
+    sector[10] = d->filling ? 5 : 0;
+    store16(sector + 14, d->code);
+    store16(sector + 16, d->action);
+    store16(sector + 18, d->function);
+    store64(sector + 40, d->next);
+    sector[200] = d->now;
+    sector[202] = d->cycle_maximum;
+    sector[204] = d->life_maximum;
+}
+
+/* "A refused status read under the lock answers 0012h and stores nothing." */
+static struct reply serve_status(struct service *s)
+{
+    if (s->device->locked)
+        return sct_refused(LOCKED);
+    write_status(s->sector, s->device);
+    return good_with_data();
+}
+
+/* "A table is sent as it stands at the E1h read." */
+static struct reply send_table(struct service *s)
+{
+    /* The fields of the table that the struct holds have not changed. */
+    memcpy(s->sector, s->table, SCT_SECTOR_BYTES);
+    return good_with_data();
+}
+
+static struct reply receive_fill_sector(struct service *s)
+{
+    memcpy(s->fill_sector, s->sector, SCT_SECTOR_BYTES);
+    start_fill(s->device, s->before.first, s->before.end);
+    return good(0);
+}
+
+/* Keeps what a refused E1h should have dropped. */
+static void planted_keep(struct service *s)
+{
+    if (PLANTED(4))
+        *s->port = s->before;
+}
+
+/*
+ * "E1h is judged: lock 0012h; no owed transfer of this port and direction
+ * 000Bh; count not 1 0003h. Each becomes the stored code. [..] A completed
+ * transfer stores 0000h, or FFFFh where it starts a fill." The transfer has
+ * been dropped by now in every case: "an E1h request judges that owed transfer
+ * as it was before".
+ */
+static struct reply serve_transfer(struct service *s, const struct request *r)
+{
+    struct device *d = s->device;
+    uint8_t wanted = r->kind == DATA_READ ? SEND_TABLE : RECEIVE_FILL_SECTOR;
+    uint16_t code = 0;
+
+    if (d->locked)
+        code = LOCKED;
+    else if (s->before.pending != wanted)
+        code = NO_TRANSFER_PENDING;
+    else if (r->count != 1)
+        code = BAD_TRANSFER_COUNT;
+    if (code != 0) {
+        planted_keep(s);
+        return sct_refused_stored(d, code);
+    }
+    d->code = CODE_DONE;
+    return wanted == SEND_TABLE ? send_table(s) : receive_fill_sector(s);
+}
+
+/*
+ * "Count (16 bits) other than 1: Error 04h. LBA at or above V: Error 10h.
+ * Locked: Error 04h, before both."
+ */
+static uint8_t judge_sector(const struct device *d, const struct request *r)
+{
+    if (d->locked || r->count != 1)
+        return ABORTED;
+    return r->lba >= d->visible ? ID_NOT_FOUND : 0;
+}
+
+static struct reply serve_sector(struct service *s, const struct request *r)
+{
+    uint8_t error = judge_sector(s->device, r);
+    uint8_t flag = s->device->initialized;
+
+    if (error != 0)
+        return refused(error);
+    if (r->kind == SECTOR_READ) {
+        memcpy(s->sector, s->disk + r->lba * SCT_SECTOR_BYTES, SCT_SECTOR_BYTES);
+        return good_with_data();
+    }
+    write_sector(s->device, s->disk, r->lba, s->sector);
+    if (PLANTED(8))
+        s->device->initialized = flag;
+    return good(0);
+}
+
+static struct reply carry_out(struct service *s, const struct request *r)
+{
+    switch (r->kind) {
+    case STATUS_READ:  return serve_status(s);
+    case KEY_WRITE:    return serve_key(s);
+    case DATA_READ:
+    case DATA_WRITE:   return serve_transfer(s, r);
+    case SECTOR_READ:
+    case SECTOR_WRITE: return serve_sector(s, r);
+    default:           return refused(ABORTED);
+    }
+}
+
+/* The pending transfer that an E1h of this port is judged by. */
+static struct port pending_before(const struct device *d, uint32_t port)
+{
+    if (PLANTED(7))
+        for (unsigned p = 0; p < SCT_PORTS; p++)
+            if (d->port[p].pending != NO_TRANSFER)
+                return d->port[p];
+    return d->port[port];
+}
+
+#if PLANTED(13)
+static const uint8_t *planted_mailbox[SCT_PORTS];
+
+static void planted_fetch_again(uint32_t port, uint8_t *sector)
+{
+    memcpy(sector + KEY_COUNT, planted_mailbox[port] + SCT_REGISTER_BYTES + KEY_COUNT, 8);
+}
+#endif
+
+/* Serves the request in the port's slot and leaves the reply there. */
+static void serve_slot(struct device *d, uint8_t *record, uint32_t port, uint8_t *area, uint8_t *disk)
+{
+    struct service s;
+    struct request r;
+
+    s.device = d;
+    s.table = record + AT_TABLE;
+    s.slot = SLOT(area, port);
+    s.sector = s.slot + SCT_REGISTER_BYTES;
+    s.fill_sector = FILL_SECTOR(area);
+    s.disk = disk;
+    s.port = &d->port[port];
+    s.before = pending_before(d, port);
+#if PLANTED(13)
+    planted_fetch_again(port, s.sector);
+#endif
+    r = read_registers(s.slot);
+    if (r.kind != STATUS_READ || PLANTED(14))
+        stop_and_drop(d);
+    write_reply(s.slot, carry_out(&s, &r));
+}
+
+/* ======================================================================== */
+/* Saved images                                                             */
+/* ======================================================================== */
+
+/*
+ * "Entries of 560 bytes: 544 of body, a 16-byte trailer at the end. Body: N at
+ * 0 and V at 8 (8 bytes each), flag 16, life maximum 17, features 1 to 3 at
+ * 18, 20, 22, kept marks in bits 0 to 2 of byte 24, zeros to 31, then the
+ * temperature table."
+ */
+enum {
+    BODY_NATIVE = 0, BODY_VISIBLE = 8, BODY_FLAG = 16, BODY_LIFE = 17, BODY_STATES = 18,
+    BODY_PERSISTENT = 24, BODY_ZEROS = 25, BODY_TABLE = 32, BODY_BYTES = 544
+};
+
+/*
+ * "Trailer: 544, the place of the previous trailer (FFFFFFFFh for the first),
+ * the entry number from 1 (4 bytes each), then the letters SCTE."
+ */
+enum { TRAILER_BODY = 0, TRAILER_PREVIOUS = 4, TRAILER_NUMBER = 8, TRAILER_LETTERS = 12, TRAILER_BYTES = 16 };
+
+/* "Trailer k stands at 560k - 16." */
+static uint32_t trailer_place(uint32_t number)
+{
+    return SCT_ENTRY_BYTES * number - TRAILER_BYTES;
+}
+
+static uint32_t previous_place(uint32_t number)
+{
+    return number == 1 ? 0xFFFFFFFFu : trailer_place(number - 1);
+}
+
+static void read_states(uint16_t state[FEATURES], const uint8_t *body)
+{
+    for (int f = 0; f < FEATURES; f++)
+        state[f] = load16(body + BODY_STATES + 2 * f);
+}
+
+/* "values in range, zeros zero, table interval equal to feature 3" */
+static bool body_holds(const uint8_t *body)
+{
+    uint16_t state[FEATURES];
+
+    read_states(state, body);
+    return sizes_in_range(load64(body + BODY_NATIVE), load64(body + BODY_VISIBLE)) &&
+           body[BODY_FLAG] <= 1 &&
+           states_in_range(state) &&
+           body[BODY_PERSISTENT] < 1u << FEATURES &&
+           all_zero(body + BODY_ZEROS, BODY_TABLE - BODY_ZEROS) &&
+           table_holds(body + BODY_TABLE) &&
+           load16(body + BODY_TABLE + TABLE_INTERVAL) == state[LOG_INTERVAL];
+}
+
+static bool trailer_holds(const uint8_t *trailer, uint32_t number)
+{
+    return load32(trailer + TRAILER_BODY) == BODY_BYTES &&
+           load32(trailer + TRAILER_PREVIOUS) == previous_place(number) &&
+           load32(trailer + TRAILER_NUMBER) == number &&
+           memcmp(trailer + TRAILER_LETTERS, "SCTE", 4) == 0;
+}
+
+/*
+ * "Reading starts at the last trailer and follows the chain back; every entry
+ * must hold". The places that a chain may name are fixed, so each entry's
+ * trailer is looked for where the chain must lead.
+ */
+static bool chain_holds(const uint8_t *image, uint32_t entries)
+{
+    const uint8_t *newest = image + SCT_ENTRY_BYTES * (entries - 1);
+
+    for (uint32_t number = entries; number >= 1; number--) {
+        const uint8_t *body = image + SCT_ENTRY_BYTES * (number - 1);
+
+        if (!trailer_holds(body + BODY_BYTES, number) || !body_holds(body))
+            return false;
+        /* "all entries have the same N" */
+        if (load64(body + BODY_NATIVE) != load64(newest + BODY_NATIVE))
+            return false;
+        if (PLANTED(17))
+            break;
+    }
+    return true;
+}
+
+/* "The used length is a multiple of 560, at most 65,520". Length 0 is readable. */
+static bool image_readable(const uint8_t *image, uint64_t used)
+{
+    if (used > SCT_IMAGE_LIMIT || used % SCT_ENTRY_BYTES != 0)
+        return false;
+    return used == 0 || chain_holds(image, (uint32_t)(used / SCT_ENTRY_BYTES));
+}
+
+/* The newest entry, or NULL if there is none. Only for readable images. */
+static const uint8_t *newest_entry(const uint8_t *image, uint64_t used)
+{
+    return used == 0 ? NULL : image + (used - SCT_ENTRY_BYTES);
+}
+
+/* 6 or 7, or 0. */
+static uint32_t judge_image(const uint8_t *image, uint64_t used, uint64_t native)
+{
+    const uint8_t *newest;
+
+    if (!image_readable(image, used))
+        return SCT_IMAGE;
+    newest = newest_entry(image, used);
+    if (newest != NULL && load64(newest + BODY_NATIVE) != native)
+        return SCT_OTHER_DISK;
+    return SCT_DONE;
+}
+
+static void write_body(uint8_t *body, const struct device *d, const uint8_t *table)
+{
+    store64(body + BODY_NATIVE, d->native);
+    store64(body + BODY_VISIBLE, d->visible);
+    body[BODY_FLAG] = d->initialized;
+    body[BODY_LIFE] = d->life_maximum;
+    body[BODY_PERSISTENT] = 0;
+    for (int f = 0; f < FEATURES; f++) {
+        store16(body + BODY_STATES + 2 * f, d->state[f]);
+        body[BODY_PERSISTENT] |= (uint8_t)(d->persistent[f] << f);
+    }
+    memset(body + BODY_ZEROS, 0, BODY_TABLE - BODY_ZEROS);
+    memcpy(body + BODY_TABLE, table, SCT_SECTOR_BYTES);
+}
+
+static void write_trailer(uint8_t *trailer, uint32_t number)
+{
+    uint32_t previous = previous_place(number);
+
+    if (PLANTED(11) && number > 1)
+        previous += TRAILER_BYTES;
+    store32(trailer + TRAILER_BODY, BODY_BYTES);
+    store32(trailer + TRAILER_PREVIOUS, previous);
+    store32(trailer + TRAILER_NUMBER, number);
+    memcpy(trailer + TRAILER_LETTERS, "SCTE", 4);
+}
+
+/* ======================================================================== */
+/* Power-on                                                                 */
+/* ======================================================================== */
+
+/*
+ * "Power-on from length 0 gives V = N, no flag, missing temperatures,
+ * defaults, empty history". "Unlocked, no fill, nothing owed, slots empty,
+ * code, action and function 0".
+ */
+static void start_afresh(struct device *d, uint8_t *table, uint64_t native)
+{
+    memset(d, 0, sizeof *d);
+    d->native = d->visible = native;
+    d->now = d->cycle_maximum = d->life_maximum = MISSING;
+    for (int t = 0; t < TIMERS; t++)
+        d->timer[t] = DEFAULT_TIMER;
+    for (int f = 0; f < FEATURES; f++)
+        d->state[f] = DEFAULT_STATE;
+    write_table_constants(table);
+    empty_history(d, table);
+}
+
+/* "The history is kept if the interval after power-on equals the saved one". */
+static void restore_history(struct device *d, uint8_t *table, const uint8_t *saved)
+{
+    if (d->state[LOG_INTERVAL] != load16(saved + TABLE_INTERVAL) && !PLANTED(10))
+        return;
+    memcpy(table + TABLE_HISTORY, saved + TABLE_HISTORY, HISTORY_SIZE);
+    d->index = load16(saved + TABLE_INDEX);
+}
+
+/*
+ * "otherwise the newest entry, with "now" and this cycle's maximum missing."
+ * "Option 1 keeps a state over power; other states return to 1." "The flag is
+ * believed as saved."
+ */
+static void restore(struct device *d, uint8_t *table, const uint8_t *body)
+{
+    uint16_t state[FEATURES];
+
+    d->visible = load64(body + BODY_VISIBLE);
+    d->initialized = body[BODY_FLAG];
+    d->life_maximum = body[BODY_LIFE];
+    read_states(state, body);
+    for (int f = 0; f < FEATURES; f++) {
+        d->persistent[f] = body[BODY_PERSISTENT] >> f & 1;
+        if (d->persistent[f])
+            d->state[f] = state[f];
+    }
+    restore_history(d, table, body + BODY_TABLE);
+}
+
+/* "a lent run of 1 to 65,536 sectors of 512 bytes" */
+static bool disk_length_possible(size_t length)
+{
+    return length % SCT_SECTOR_BYTES == 0 &&
+           1 <= length / SCT_SECTOR_BYTES && length / SCT_SECTOR_BYTES <= SCT_NATIVE_LIMIT;
+}
+
+static bool disk_length_right(const struct device *d, size_t length)
+{
+    return length == d->native * SCT_SECTOR_BYTES;
+}
+
+/* ======================================================================== */
+/* The entries                                                              */
+/* ======================================================================== */
+
+/*
+ * "Order where several apply: 4, 2, 1, 5, 3, 6, 7, 8." "A nonzero answer
+ * changes nothing anywhere; work then reports 0."
+ */
+
+/* The answers 1 and 3 of take, serve and give. */
+static uint32_t judge_port(const struct device *d, uint32_t port, enum stage needed)
+{
+    if (port >= SCT_PORTS)
+        return SCT_PORT;
+    return d->port[port].stage == needed ? SCT_DONE : SCT_STAGE;
+}
+
+/* "copies the mailbox into the port's slot. Slot goes from empty to held." */
+uint32_t REF(take)(uint8_t *record, size_t record_length, uint32_t port,
+                   const uint8_t *mailbox, size_t mailbox_length,
+                   uint8_t *private_area, size_t private_length)
+{
+    struct device d;
+    uint32_t answer;
+
+    if (!open_record(&d, record, record_length))
+        return SCT_RECORD;
+    if (PLANTED(18) && port >= SCT_PORTS)
+        return SCT_PORT;
+    if (mailbox_length != SCT_MAILBOX_BYTES || private_length != SCT_PRIVATE_BYTES)
+        return SCT_LENGTH;
+    answer = judge_port(&d, port, EMPTY);
+    if (answer != SCT_DONE)
+        return answer;
+    memcpy(SLOT(private_area, port), mailbox, SCT_MAILBOX_BYTES);
+#if PLANTED(13)
+    planted_mailbox[port] = mailbox;
+#endif
+    d.port[port].stage = HELD;
+    write_device(record, &d);
+    return SCT_DONE;
+}
+
+/* "answers the held request from the slot alone and leaves the reply in the slot." */
+uint32_t REF(serve)(uint8_t *record, size_t record_length, uint32_t port,
+                    uint8_t *private_area, size_t private_length,
+                    uint8_t *disk, size_t disk_length)
+{
+    struct device d;
+    uint32_t answer;
+
+    if (!open_record(&d, record, record_length))
+        return SCT_RECORD;
+    if (private_length != SCT_PRIVATE_BYTES || !disk_length_right(&d, disk_length))
+        return SCT_LENGTH;
+    answer = judge_port(&d, port, HELD);
+    if (answer != SCT_DONE)
+        return answer;
+    serve_slot(&d, record, port, private_area, disk);
+    d.port[port].stage = ANSWERED;
+    write_device(record, &d);
+    return SCT_DONE;
+}
+
+/* "writes all 528 reply bytes to the mailbox. Answered to empty; the slot's bytes stay." */
+uint32_t REF(give)(uint8_t *record, size_t record_length, uint32_t port,
+                   uint8_t *mailbox, size_t mailbox_length,
+                   const uint8_t *private_area, size_t private_length)
+{
+    struct device d;
+    uint32_t answer;
+
+    if (!open_record(&d, record, record_length))
+        return SCT_RECORD;
+    if (mailbox_length != SCT_MAILBOX_BYTES || private_length != SCT_PRIVATE_BYTES)
+        return SCT_LENGTH;
+    answer = judge_port(&d, port, ANSWERED);
+    if (answer != SCT_DONE)
+        return answer;
+    memcpy(mailbox, SLOT(private_area, port), SCT_MAILBOX_BYTES);
+    d.port[port].stage = EMPTY;
+    write_device(record, &d);
+    return SCT_DONE;
+}
+
+/*
+ * "writes the next sectors of a running fill, as many as n and what is left
+ * allow, and reports how many it wrote. None running, or n = 0: reports 0."
+ */
+uint64_t REF(work)(uint8_t *record, size_t record_length,
+                   const uint8_t *private_area, size_t private_length,
+                   uint8_t *disk, size_t disk_length, uint32_t n)
+{
+    struct device d;
+    uint32_t sectors;
+
+    if (!open_record(&d, record, record_length))
+        return (uint64_t)SCT_RECORD << 32;
+    if (private_length != SCT_PRIVATE_BYTES || !disk_length_right(&d, disk_length))
+        return (uint64_t)SCT_LENGTH << 32;
+    sectors = advance_fill(&d, disk, FILL_SECTOR(private_area), n);
+    if (PLANTED(12) && n == 0)
+        sectors = 1;
+    write_device(record, &d);
+    return (uint64_t)SCT_DONE << 32 | sectors;
+}
+
+static uint32_t set_lock(uint8_t *record, size_t record_length, uint8_t locked)
+{
+    struct device d;
+
+    if (!open_record(&d, record, record_length))
+        return SCT_RECORD;
+    stop_and_drop(&d);
+    d.locked = locked;
+    write_device(record, &d);
+    return SCT_DONE;
+}
+
+uint32_t REF(lock)(uint8_t *record, size_t record_length)
+{
+    return set_lock(record, record_length, 1);
+}
+
+uint32_t REF(unlock)(uint8_t *record, size_t record_length)
+{
+    return set_lock(record, record_length, 0);
+}
+
+/* The flag "is cleared [..] by a changed V". */
+uint32_t REF(set_visible)(uint8_t *record, size_t record_length, uint64_t v)
+{
+    struct device d;
+
+    if (!open_record(&d, record, record_length))
+        return SCT_RECORD;
+    if (v < 1 || v > d.native)
+        return SCT_VALUE;
+    if (!PLANTED(6))
+        stop_and_drop(&d);
+    if (v != d.visible)
+        d.initialized = 0;
+    d.visible = v;
+    write_device(record, &d);
+    return SCT_DONE;
+}
+
+uint32_t REF(sample)(uint8_t *record, size_t record_length, uint8_t reading)
+{
+    struct device d;
+
+    if (!open_record(&d, record, record_length))
+        return SCT_RECORD;
+    take_sample(&d, record + AT_TABLE, reading);
+    write_device(record, &d);
+    return SCT_DONE;
+}
+
+/* "image has 117 entries, or its buffer lacks 560 more bytes" */
+static bool image_full(size_t image_length, uint64_t used)
+{
+    return used == SCT_IMAGE_LIMIT || image_length - used < SCT_ENTRY_BYTES;
+}
+
+/* "A save adds one entry behind the used length; other bytes stay." */
+uint32_t REF(save)(const uint8_t *record, size_t record_length,
+                   uint8_t *image, size_t image_length, uint64_t used)
+{
+    struct device d;
+    uint32_t answer;
+    uint8_t *entry;
+
+    if (!open_record(&d, record, record_length))
+        return SCT_RECORD;
+    if (used > image_length)
+        return SCT_LENGTH;
+    answer = judge_image(image, used, d.native);
+    if (PLANTED(22) && answer == SCT_OTHER_DISK && image_full(image_length, used))
+        return SCT_FULL;
+    if (answer != SCT_DONE)
+        return answer;
+    if (image_full(image_length, used))
+        return SCT_FULL;
+    entry = image + used;
+    write_body(entry, &d, record + AT_TABLE);
+    write_trailer(entry + BODY_BYTES, (uint32_t)(used / SCT_ENTRY_BYTES) + 1);
+    return SCT_DONE;
+}
+
+/* "private area all zeros" */
+uint32_t REF(power_on)(uint8_t *record, size_t record_length,
+                       uint8_t *private_area, size_t private_length,
+                       const uint8_t *disk, size_t disk_length,
+                       const uint8_t *image, size_t image_length, uint64_t used)
+{
+    struct device d;
+    uint64_t native = disk_length / SCT_SECTOR_BYTES;
+    const uint8_t *newest;
+    uint32_t answer;
+
+    (void)disk;     /* lent for its length */
+    if (record_length != SCT_RECORD_BYTES || private_length != SCT_PRIVATE_BYTES ||
+        !disk_length_possible(disk_length) || used > image_length)
+        return SCT_LENGTH;
+    answer = judge_image(image, used, native);
+    if (answer != SCT_DONE)
+        return answer;
+    newest = newest_entry(image, used);
+    memset(record, 0, AT_TABLE);
+    start_afresh(&d, record + AT_TABLE, native);
+    if (newest != NULL)
+        restore(&d, record + AT_TABLE, newest);
+    write_device(record, &d);
+    memset(private_area, 0, PLANTED(20) ? SCT_MAILBOX_BYTES * SCT_PORTS : SCT_PRIVATE_BYTES);
+    return SCT_DONE;
+}

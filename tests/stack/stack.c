@@ -1,0 +1,376 @@
+/*
+ * stack.c - how much stack each entry uses.
+ *
+ * A call is made on a stack of its own, painted with one byte; the lowest byte
+ * that lost its paint tells the depth. The same call of an entry that does
+ * nothing is taken off, so that the numbers are the entry's own, with its
+ * return address. x86-64 only.
+ *
+ * Paint shows what is written, not what is merely set aside: a frame whose
+ * lowest bytes are never touched looks that much smaller.
+ *
+ * Every call is made once before it is measured (an entry of a shared library
+ * is bound at its first call) and then with two paints, so that a byte that
+ * happens to equal the paint does not matter.
+ *
+ * Ends with 1 if an entry uses more than LIMIT bytes.
+ */
+#include <stdbool.h>
+#include <stdio.h>
+#include <string.h>
+
+#include "bytes.h"
+#include "implementation.h"
+#include "layout.h"
+#include "random.h"
+#include "request.h"
+
+#if !defined(__x86_64__)
+#error "this test switches stacks with x86-64 instructions"
+#endif
+
+enum { LIMIT = 1024, STACK_BYTES = 32768, SECTORS = 64, RANDOM_TRIALS = 20000 };
+
+enum entry { POWER_ON, TAKE, SERVE, GIVE, WORK, LOCK, UNLOCK, SET_VISIBLE, SAMPLE, SAVE, ENTRIES };
+
+static const char *const entry_name[ENTRIES] = {
+    "power_on", "take", "serve", "give", "work", "lock", "unlock", "set_visible", "sample", "save"
+};
+
+/* ---- The buffers, and one call ------------------------------------------------ */
+
+static uint8_t  record[SCT_RECORD_BYTES];
+static uint8_t  area[SCT_PRIVATE_BYTES];
+static uint8_t  disk[SECTORS * SCT_SECTOR_BYTES];
+static uint8_t  mail[SCT_MAILBOX_BYTES];
+static uint8_t  image[SCT_IMAGE_LIMIT + SCT_ENTRY_BYTES];
+static uint64_t used;
+
+struct call {
+    const struct implementation *code;
+    enum entry entry;
+    uint32_t   port, n;
+    uint64_t   visible;
+    uint8_t    reading;
+    uint32_t   answer;
+};
+
+static void make_call(void *argument)
+{
+    struct call *c = argument;
+    const struct implementation *code = c->code;
+
+    switch (c->entry) {
+    case POWER_ON:
+        c->answer = code->power_on(record, sizeof record, area, sizeof area, disk, sizeof disk,
+                                   image, sizeof image, used);
+        break;
+    case TAKE:
+        c->answer = code->take(record, sizeof record, c->port, mail, sizeof mail, area, sizeof area);
+        break;
+    case SERVE:
+        c->answer = code->serve(record, sizeof record, c->port, area, sizeof area, disk, sizeof disk);
+        break;
+    case GIVE:
+        c->answer = code->give(record, sizeof record, c->port, mail, sizeof mail, area, sizeof area);
+        break;
+    case WORK:
+        c->answer = sct_work_answer(code->work(record, sizeof record, area, sizeof area,
+                                               disk, sizeof disk, c->n));
+        break;
+    case LOCK:
+        c->answer = code->lock(record, sizeof record);
+        break;
+    case UNLOCK:
+        c->answer = code->unlock(record, sizeof record);
+        break;
+    case SET_VISIBLE:
+        c->answer = code->set_visible(record, sizeof record, c->visible);
+        break;
+    case SAMPLE:
+        c->answer = code->sample(record, sizeof record, c->reading);
+        break;
+    default:
+        c->answer = code->save(record, sizeof record, image, sizeof image, used);
+        break;
+    }
+}
+
+/* ---- Entries that do nothing ---------------------------------------------------- */
+
+#define UNUSED(a) (void)(a)
+
+static uint32_t no_power_on(uint8_t *a, size_t b, uint8_t *c, size_t d, const uint8_t *e, size_t f,
+                            const uint8_t *g, size_t h, uint64_t i)
+{
+    UNUSED(a); UNUSED(b); UNUSED(c); UNUSED(d); UNUSED(e); UNUSED(f); UNUSED(g); UNUSED(h); UNUSED(i);
+    return 0;
+}
+
+static uint32_t no_take(uint8_t *a, size_t b, uint32_t c, const uint8_t *d, size_t e, uint8_t *f, size_t g)
+{
+    UNUSED(a); UNUSED(b); UNUSED(c); UNUSED(d); UNUSED(e); UNUSED(f); UNUSED(g);
+    return 0;
+}
+
+static uint32_t no_serve(uint8_t *a, size_t b, uint32_t c, uint8_t *d, size_t e, uint8_t *f, size_t g)
+{
+    UNUSED(a); UNUSED(b); UNUSED(c); UNUSED(d); UNUSED(e); UNUSED(f); UNUSED(g);
+    return 0;
+}
+
+static uint32_t no_give(uint8_t *a, size_t b, uint32_t c, uint8_t *d, size_t e, const uint8_t *f, size_t g)
+{
+    UNUSED(a); UNUSED(b); UNUSED(c); UNUSED(d); UNUSED(e); UNUSED(f); UNUSED(g);
+    return 0;
+}
+
+static uint64_t no_work(uint8_t *a, size_t b, const uint8_t *c, size_t d, uint8_t *e, size_t f, uint32_t g)
+{
+    UNUSED(a); UNUSED(b); UNUSED(c); UNUSED(d); UNUSED(e); UNUSED(f); UNUSED(g);
+    return 0;
+}
+
+static uint32_t no_lock(uint8_t *a, size_t b)
+{
+    UNUSED(a); UNUSED(b);
+    return 0;
+}
+
+static uint32_t no_set_visible(uint8_t *a, size_t b, uint64_t c)
+{
+    UNUSED(a); UNUSED(b); UNUSED(c);
+    return 0;
+}
+
+static uint32_t no_sample(uint8_t *a, size_t b, uint8_t c)
+{
+    UNUSED(a); UNUSED(b); UNUSED(c);
+    return 0;
+}
+
+static uint32_t no_save(const uint8_t *a, size_t b, uint8_t *c, size_t d, uint64_t e)
+{
+    UNUSED(a); UNUSED(b); UNUSED(c); UNUSED(d); UNUSED(e);
+    return 0;
+}
+
+static const struct implementation nothing = {
+    "nothing", no_power_on, no_take, no_serve, no_give, no_work,
+    no_lock, no_lock, no_set_visible, no_sample, no_save
+};
+
+/* ---- Measuring -------------------------------------------------------------------- */
+
+static uint8_t stack[STACK_BYTES] __attribute__((aligned(64)));
+
+/* Calls f(argument) with the stack pointer at `top`, and comes back. */
+static void call_on(uint8_t *top, void (*f)(void *), void *argument)
+{
+    __asm__ volatile("movq %%rsp, %%rbx\n\t"
+                     "movq %1, %%rsp\n\t"
+                     "call *%2\n\t"
+                     "movq %%rbx, %%rsp\n\t"
+                     : "+D"(argument)
+                     : "r"(top), "r"(f)
+                     : "rax", "rbx", "rcx", "rdx", "rsi", "r8", "r9", "r10", "r11", "memory", "cc",
+                       "xmm0", "xmm1", "xmm2", "xmm3", "xmm4", "xmm5", "xmm6", "xmm7",
+                       "xmm8", "xmm9", "xmm10", "xmm11", "xmm12", "xmm13", "xmm14", "xmm15");
+}
+
+static size_t depth_with(struct call *call, uint8_t paint)
+{
+    size_t untouched = 0;
+
+    memset(stack, paint, sizeof stack);
+    call_on(stack + sizeof stack, make_call, call);
+    while (untouched < sizeof stack && stack[untouched] == paint)
+        untouched++;
+    return sizeof stack - untouched;
+}
+
+/* The buffers of a call, to make it again from the same state. */
+static struct { uint8_t record[SCT_RECORD_BYTES], area[SCT_PRIVATE_BYTES], mail[SCT_MAILBOX_BYTES]; } kept;
+
+static void keep_state(void)
+{
+    memcpy(kept.record, record, sizeof record);
+    memcpy(kept.area, area, sizeof area);
+    memcpy(kept.mail, mail, sizeof mail);
+}
+
+static void restore_state(void)
+{
+    memcpy(record, kept.record, sizeof record);
+    memcpy(area, kept.area, sizeof area);
+    memcpy(mail, kept.mail, sizeof mail);
+}
+
+static size_t depth_of(struct call *call)
+{
+    size_t one, two;
+
+    keep_state();
+    one = depth_with(call, 0xA5);
+    restore_state();
+    two = depth_with(call, 0x5A);
+    return one > two ? one : two;
+}
+
+static size_t deepest[ENTRIES], empty_depth[ENTRIES];
+
+/* Makes the call and notes its depth. Returns the answer. */
+static uint32_t measure(struct call *call)
+{
+    size_t depth;
+
+    keep_state();
+    make_call(call);
+    restore_state();
+    depth = depth_of(call) - empty_depth[call->entry] + 8;     /* 8: its return address */
+    if (depth > deepest[call->entry])
+        deepest[call->entry] = depth;
+    return call->answer;
+}
+
+static struct call call_of(enum entry entry)
+{
+    struct call c = { &archive, entry, 0, 3, SECTORS / 2, 30, 0 };
+
+    return c;
+}
+
+static uint32_t measure_entry(enum entry entry)
+{
+    struct call c = call_of(entry);
+
+    return measure(&c);
+}
+
+/* The frame of make_call itself, with the arguments that it pushes. */
+static void measure_nothing(void)
+{
+    for (enum entry e = 0; e < ENTRIES; e++) {
+        struct call c = call_of(e);
+
+        c.code = &nothing;
+        make_call(&c);
+        empty_depth[e] = depth_of(&c);
+    }
+}
+
+/* ---- What is measured ---------------------------------------------------------------- */
+
+static void exchange(void)
+{
+    measure_entry(TAKE);
+    measure_entry(SERVE);
+    measure_entry(GIVE);
+}
+
+enum { REQUESTS = 22 };
+
+static void request(unsigned number)
+{
+    switch (number) {
+    case 0:  build_status(mail, SMART); break;
+    case 1:  build_status(mail, LOG_EXT); break;
+    case 2:  build_fill(mail, SMART, 1, 0, 0, 0x01020304); break;
+    case 3:  build_fill(mail, LOG_EXT, 1, 5, 9, 0x01020304); break;
+    case 4:  build_fill(mail, SMART, 1, 1, UINT64_MAX, 0); break;
+    case 5:  build_fill(mail, SMART, 2, 5, 9, 0); break;
+    case 6:  build_data_write(mail, SMART); break;
+    case 7:  build_key(mail, SMART, 5, 1, 2, 0, 0); break;
+    case 8:  build_data_read(mail, LOG_EXT); break;
+    case 9:  build_data_read(mail, LOG_EXT); break;
+    case 10: build_key(mail, SMART, 3, 1, 1, 70, 0); break;
+    case 11: build_key(mail, SMART, 3, 2, 1, 0, 0); break;
+    case 12: build_key(mail, SMART, 3, 1, 2, 9, 0); break;
+    case 13: build_key(mail, SMART, 4, 1, 3, 2, 1); break;
+    case 14: build_key(mail, SMART, 4, 2, 1, 0, 0); break;
+    case 15: build_key(mail, SMART, 4, 1, 1, 9, 9); break;
+    case 16: build_key(mail, SMART, 1, 1, 1, 1, 1); break;
+    case 17: build_sector(mail, false, 3, 1); break;
+    case 18: build_sector(mail, true, 3, 1); break;
+    case 19: build_sector(mail, true, 1u << 30, 1); break;
+    case 20: build_sector(mail, true, 3, 2); break;
+    default: build_command(mail, 0xEC); break;
+    }
+}
+
+static void all_requests(void)
+{
+    for (unsigned i = 0; i < REQUESTS; i++) {
+        request(i);
+        exchange();
+        measure_entry(WORK);
+    }
+}
+
+static void requests_in_every_state(void)
+{
+    measure_entry(POWER_ON);
+    all_requests();
+    measure_entry(LOCK);
+    all_requests();
+    measure_entry(UNLOCK);
+    measure_entry(SET_VISIBLE);
+    all_requests();
+    for (int i = 0; i < 5; i++)
+        measure_entry(SAMPLE);
+}
+
+/* An image grows to 117 entries; from each it is started. */
+static void chains(void)
+{
+    for (used = 0; used <= SCT_IMAGE_LIMIT; used += SCT_ENTRY_BYTES) {
+        measure_entry(POWER_ON);
+        measure_entry(SAMPLE);
+        measure_entry(SAVE);    /* the last is refused: full */
+    }
+    used = SCT_IMAGE_LIMIT;
+    image[0] ^= 1;              /* the oldest entry does not hold */
+    measure_entry(POWER_ON);
+    measure_entry(SAVE);
+    image[0] ^= 1;
+    used = 0;
+}
+
+/* Any sound record, any request; then a record of junk. */
+static void random_states(void)
+{
+    struct random r = random_for(7, 7);
+
+    for (int i = 0; i < RANDOM_TRIALS; i++) {
+        struct call c = call_of((enum entry)below(&r, ENTRIES));
+
+        random_record(&r, record, SECTORS);
+        request((unsigned)below(&r, REQUESTS));
+        c.port = (uint32_t)below(&r, 5);
+        if (c.port < SCT_PORTS)
+            memcpy(area + SCT_MAILBOX_BYTES * c.port, mail, SCT_MAILBOX_BYTES);
+        c.n = (uint32_t)random64(&r);
+        c.n >>= below(&r, 32);
+        c.visible = below(&r, SECTORS + 2);
+        c.reading = (uint8_t)random64(&r);
+        if (once_in(&r, 10))
+            record[below(&r, SCT_RECORD_BYTES)] ^= (uint8_t)random64(&r);
+        measure(&c);
+    }
+}
+
+int main(void)
+{
+    bool fits = true;
+
+    measure_nothing();
+    requests_in_every_state();
+    chains();
+    random_states();
+    printf("stack in bytes, return address included (limit %d)\n", LIMIT);
+    for (enum entry e = 0; e < ENTRIES; e++) {
+        printf("  sct_%-12s %6zu%s\n", entry_name[e], deepest[e], deepest[e] > LIMIT ? "  TOO MUCH" : "");
+        fits = fits && deepest[e] <= LIMIT;
+    }
+    return fits ? 0 : 1;
+}
