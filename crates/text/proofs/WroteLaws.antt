@@ -5,9 +5,9 @@ use native.Mathlib.Nat.{add-assoc}
 use native.Mathlib.Omega.{arith}
 use mathlib.Core.List.{List, _++_}
 use lib.ListN.{length, take, drop, length-append}
-use lib.Seq.{sets, sets-eq, take-at, length-take-le}
+use lib.Seq.{sets, sets-eq, length-sets, take-at, length-take-le}
 use Rattle.wire.proofs.PartsLaws.{sets-append}
-use Rattle.text.specs.Text.{Wrote}
+use Rattle.text.specs.Text.{Wrote, Begins}
 
 pub wrote-then : {before : List ℕ} {at : ℕ} {first : List ℕ} {middle : ℕ} {between second : List ℕ} {next : ℕ} {after : List ℕ}
     → Wrote before at first middle between → Wrote between middle second next after → Wrote before at (first ++ second) next after
@@ -36,6 +36,10 @@ wrote-begin {before} {at} {text} {next} {after} w h =
     rw (w .line, sets-eq text before at (omega arith))
     (take-at (take at before ++ text) (drop (at + length text) before) next whole)
 
--- how `&line[..next]` is known to lie in the line
-pub begin-counts : (next : ℕ) (line : List ℕ) → next ≤ length line → (next ≤ length line) × (next ≡ length (take next line))
-begin-counts next line h = (h, sym (length-take-le next line h))
+-- the written part lies in the line
+pub wrote-begins : {before : List ℕ} {at : ℕ} {text : List ℕ} {next : ℕ} {after : List ℕ}
+    → Wrote before at text next after → next ≤ length before → Begins next after
+wrote-begins {before} {at} {text} {next} {after} w h =
+    let same : length after ≡ length before = rw (w .line) (length-sets before at text) in
+    let within : next ≤ length after = rw same h in
+    (within, sym (length-take-le next after within))

@@ -1,9 +1,9 @@
 -- Numbers as text, and what it is to write a piece of text into a line.
 use mathlib.Core.Path.{_≡_}
-use Prim.Native.Nat.{ℕ, zero, suc, _+_, _/_, _%_}
+use Prim.Native.Nat.{ℕ, zero, suc, _+_, _/_, _%_, _≤_}
 use mathlib.Core.List.{List, [], _∷_, _++_}
 use lib.Dec.{ltb}
-use lib.ListN.{length}
+use lib.ListN.{length, take}
 use lib.Seq.{sets}
 use Rattle.wire.specs.Choice.{if_then_else_}
 
@@ -29,3 +29,7 @@ decimalDigits v = decimalUpTo (suc v) v
 pub record Wrote (before : List ℕ) (at : ℕ) (text : List ℕ) (next : ℕ) (after : List ℕ) : Type 0 where
   pub place : next ≡ at + length text
   pub line : after ≡ sets before at text
+
+-- the line has n bytes at its start: how `&line[..n]` is known to lie in it. The second part follows from the first.
+abbrev pub Begins : ℕ → List ℕ → Type 0
+Begins n line = (n ≤ length line) × (n ≡ length (take n line))

@@ -1,0 +1,58 @@
+// The desk program: records of one byte and a mailbox on standard input, served on a fresh disk of 64 sectors, a line for each.
+use libc::STDIN_FILENO;
+use libc::STDOUT_FILENO;
+use text::Arrival;
+ghost use mathlib.Core.Path.{_≡_};
+ghost use lib.ListN.{length};
+
+// Serves record `number` and writes its line. Answers whether to go on.
+fn answer(
+    device: &mut [u8],
+    area: &mut [u8],
+    disk: &mut [u8],
+    number: u64,
+    input: &mut [u8],
+) -> bool
+    requires { ⌜ length (now device) ≡ 1024 ⌝ }
+    requires { ⌜ length (now input) ≡ 529 ⌝ }
+{
+    let n = input[0];
+    let mut line = [0u8; 64];
+    let end = session::turn(&mut line, number, n, &mut input[1..], device, area, disk);
+    io::write_all(STDOUT_FILENO, &line[..end])
+}
+
+// Reads record `number` and serves it. Answers whether to go on.
+fn next(device: &mut [u8], area: &mut [u8], disk: &mut [u8], number: u64) -> bool
+    requires { ⌜ length (now device) ≡ 1024 ⌝ }
+{
+    let mut input = [0u8; 529];
+    let count = io::read_full(STDIN_FILENO, &mut input);
+    let arrival = text::arrived(count, 529);
+    match arrival {
+        Arrival::Whole => answer(device, area, disk, number, &mut input),
+        Arrival::Cut => {
+            io::write_all(STDOUT_FILENO, b"cut\n");
+            false
+        }
+        Arrival::End => false,
+    }
+}
+
+fn all(device: &mut [u8], area: &mut [u8], disk: &mut [u8])
+    requires { ⌜ length (now device) ≡ 1024 ⌝ }
+{
+    let mut done: u64 = 0;
+    while done < u64::MAX && next(device, area, disk, done + 1) {
+        done += 1;
+    }
+}
+
+fn main() {
+    let mut device = [0u8; 1024];
+    let mut area = [0u8; 2624];
+    let mut disk = [0u8; 32768];
+    io::write_all(STDOUT_FILENO, b"n status error code written\n");
+    service::sct_power_on(&mut device, &mut area, &disk, b"", 0);
+    all(&mut device, &mut area, &mut disk);
+}

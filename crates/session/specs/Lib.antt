@@ -1,0 +1,3 @@
+-- One record of a session.
+pub mod Report
+pub mod Turn
