@@ -79,7 +79,7 @@ chain-every native image (suc k) h =
 
 -- ---- the form of an image
 
--- "Entries of 560 bytes: 544 of body, a 16-byte trailer at the end": entry k, of values in range that fit, with the disk's N.
+-- "Entries of 560 bytes: 544 of body, a 16-byte trailer at the end": entry k, of values in range that fit, with the image's N.
 pub record EntryForm (native : ℕ) (image : List ℕ) (k : ℕ) : Type 0 where
   pub saved : Saved
   pub fits : SavedFits saved

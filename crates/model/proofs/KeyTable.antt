@@ -19,13 +19,13 @@ abbrev pub Beyond : ℕ → ℕ → ℕ → Type 0
 Beyond low x high = between low x high ≡ false
 
 module _ (d : Device) (k : List ℕ) where
-  -- "any, locked: 0012h"
+  -- any action, locked: 0012h
   pub key-locked : d .locked ≡ true → judgeKey d k ≡ rejected 0x0012
   unfolding judgeKey keyChecks
   key-locked locked = rw locked
 
   module _ (unlocked : d .locked ≡ false) where
-    -- "not 2 to 5: 0010h"
+    -- an action that is "not 2 to 5": 0010h
     pub key-action : Beyond 2 (word k 0) 5 → judgeKey d k ≡ rejected 0x0010
     unfolding judgeKey keyChecks
     key-action a = rw (unlocked, a)

@@ -1,12 +1,15 @@
 -- The limits of document 01, as numbers.
 use mathlib.Core.Path.{_≡_, refl}
 use mathlib.Core.Bool.{true, false, and-false}
+use mathlib.Core.Logic.{_↔_}
 use Prim.Native.Nat.{ℕ, _+_, _*_, _/_, _%_, _≤_, _<_}
 use native.Mathlib.Omega.{arith}
 use mathlib.Core.List.{List}
 use lib.ListN.{length}
-use lib.Dec.{ltb}
-use borrow.Author.Tests.{lt-leb, le-leb}
+use lib.Dec.{eqb, ltb}
+use borrow.Author.Tests.{eqb-true, eq-eqb, lt-leb, le-leb}
+use Rattle.wire.specs.Choice.{between}
+use Rattle.wire.proofs.ChoiceLaws.{and-left, and-right, between-true, between-within}
 use Rattle.model.specs.Image.{readable, sameDisk, hasRoom, wholeSectors}
 use Rattle.model.specs.Machine.{Machine}
 use Rattle.model.specs.Step.{save}
@@ -19,6 +22,16 @@ disk-sizes = (refl, refl)
 
 pub disk-sizes-refused : (wholeSectors 0 ≡ false) × (wholeSectors 513 ≡ false) × (wholeSectors (512 * 65537) ≡ false)
 disk-sizes-refused = (refl, refl, refl)
+
+-- .. so the disk has 512 to 33,554,432 bytes, a multiple of 512
+pub whole-sectors : (n : ℕ) → (wholeSectors n ≡ true) ↔ ((n % 512 ≡ 0) × (512 ≤ n) × (n ≤ 33554432))
+whole-sectors n = (
+  λ e.
+      let multiple = eqb-true (n % 512) 0 (and-left (eqb (n % 512) 0) (between 1 (n / 512) 65536) e) in
+      let within = between-true 1 (n / 512) 65536 (and-right (eqb (n % 512) 0) (between 1 (n / 512) 65536) e) in
+      (multiple, omega (arith, within .0), omega (arith, multiple, within .1)),
+  λ k. rw (eq-eqb (n % 512) 0 (k .0)) (between-within 1 (n / 512) 65536 (omega (arith, k .1)) (omega (arith, k .2))),
+)
 
 -- "The used length is a multiple of 560, at most 65,520"
 pub readable-length : (image : List ℕ) (used : ℕ) → readable image used ≡ true → (used % 560 ≡ 0) × (used ≤ 65520)

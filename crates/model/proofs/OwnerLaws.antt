@@ -142,3 +142,15 @@ pub visible-code : (v : ℕ) (M : Machine) → 1 ≤ v → v ≤ M .device .nati
     → step (setVisible v) M .state .device .command .code ≡ 0x0008
 unfolding setVisibleDevice
 visible-code v M some most first next end e = rw (visible-set v M some most) (interrupt-code-running (M .device) first next end e)
+
+-- ---- with no fill the stored code stays
+
+pub lock-code-idle : (M : Machine) → M .device .command .fill ≡ idle
+    → (step lock M .state .device .command .code ≡ M .device .command .code) × (step unlock M .state .device .command .code ≡ M .device .command .code)
+unfolding step setLock
+lock-code-idle M e = (interrupt-code-idle (M .device) e, interrupt-code-idle (M .device) e)
+
+pub visible-code-idle : (v : ℕ) (M : Machine) → 1 ≤ v → v ≤ M .device .native → M .device .command .fill ≡ idle
+    → step (setVisible v) M .state .device .command .code ≡ M .device .command .code
+unfolding setVisibleDevice
+visible-code-idle v M some most e = rw (visible-set v M some most) (interrupt-code-idle (M .device) e)

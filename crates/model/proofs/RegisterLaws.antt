@@ -1,6 +1,7 @@
 -- Laws of the registers: which bytes make which request, and which bytes are ignored.
 use mathlib.Core.Path.{_≡_, refl, sym, ap, _∙_}
 use mathlib.Core.Bool.{Bool, true, false, _&&_, and-false}
+use mathlib.Core.Logic.{_⊎_, inl, inr}
 use Prim.Native.Nat.{ℕ, zero, suc, _+_, _*_, _^_, _<_}
 use native.Mathlib.Omega.{arith}
 use mathlib.Core.List.{List, [], _∷_}
@@ -98,6 +99,49 @@ ignored m n s =
       b 8 (omega arith),
       b 9 (omega arith),
     )
+
+-- ---- "for B0h so are the previous bytes, and so is every register that a rule below doesn't name"
+
+-- two mailboxes have the same bytes at these places
+abbrev pub SameAt : List ℕ → List ℕ → List ℕ → Type 0
+SameAt [] m n = Unit {0}
+SameAt (i ∷ is) m n = (getD m i 0 ≡ getD n i 0) × SameAt is m n
+
+pub smart-named : (m n : List ℕ) → getD m 11 0 ≡ 0xB0 → SameAt (0 ∷ 2 ∷ 4 ∷ 6 ∷ 8 ∷ 11 ∷ []) m n → requestOf m ≡ requestOf n
+unfolding requestOf smartLog
+smart-named m n c s = rw (c, s .0, s .1 .0, s .1 .1 .0, s .1 .1 .1 .0, s .1 .1 .1 .1 .0, sym (s .1 .1 .1 .1 .1 .0) ∙ c)
+
+same-pair : (m n : List ℕ) (i : ℕ) → getD m i 0 ≡ getD n i 0 → getD m (suc i) 0 ≡ getD n (suc i) 0 → get 2 m i ≡ get 2 n i
+unfolding get
+same-pair m n i low high = rw (low, high)
+
+pub ext-named : (m n : List ℕ) → (getD m 11 0 ≡ 0x2F) ⊎ (getD m 11 0 ≡ 0x3F) → SameAt (2 ∷ 3 ∷ 4 ∷ 6 ∷ 7 ∷ 11 ∷ []) m n → requestOf m ≡ requestOf n
+unfolding requestOf logExt
+ext-named m n c s = go c
+  where
+    count : count16 m ≡ count16 n
+    count = same-pair m n 2 (s .0) (s .1 .0)
+
+    mid : lbaMid16 m ≡ lbaMid16 n
+    mid = same-pair m n 6 (s .1 .1 .1 .0) (s .1 .1 .1 .1 .0)
+
+    go : (getD m 11 0 ≡ 0x2F) ⊎ (getD m 11 0 ≡ 0x3F) → requestOf m ≡ requestOf n
+    go (inl e) = rw (e, count, mid, s .1 .1 .0, sym (s .1 .1 .1 .1 .1 .0) ∙ e)
+    go (inr e) = rw (e, count, mid, s .1 .1 .0, sym (s .1 .1 .1 .1 .1 .0) ∙ e)
+
+pub sector-named : (m n : List ℕ) → (getD m 11 0 ≡ 0x24) ⊎ (getD m 11 0 ≡ 0x34) → SameAt (2 ∷ 3 ∷ 4 ∷ 5 ∷ 6 ∷ 7 ∷ 8 ∷ 9 ∷ 11 ∷ []) m n → requestOf m ≡ requestOf n
+unfolding requestOf lba48
+sector-named m n c s = go c
+  where
+    count : count16 m ≡ count16 n
+    count = same-pair m n 2 (s .0) (s .1 .0)
+
+    lba : lba48 m ≡ lba48 n
+    lba = rw (s .1 .1 .0, s .1 .1 .1 .0, s .1 .1 .1 .1 .0, s .1 .1 .1 .1 .1 .0, s .1 .1 .1 .1 .1 .1 .0, s .1 .1 .1 .1 .1 .1 .1 .0)
+
+    go : (getD m 11 0 ≡ 0x24) ⊎ (getD m 11 0 ≡ 0x34) → requestOf m ≡ requestOf n
+    go (inl e) = rw (e, count, lba, sym (s .1 .1 .1 .1 .1 .1 .1 .1 .0) ∙ e)
+    go (inr e) = rw (e, count, lba, sym (s .1 .1 .1 .1 .1 .1 .1 .1 .0) ∙ e)
 
 -- ---- "All else"
 

@@ -9,7 +9,7 @@ use Rattle.wire.specs.Bytes.{Bytes}
 use Rattle.model.specs.Device.{Fill, idle, running, Transfer, none, table, fillData, Device}
 use Rattle.model.specs.Valid.{FillValid, PendingValid, pendingCount, pendingLimit, CodeValid, Valid}
 
-pub record Sound (d : Device) : Type 0 where
+pub record Clauses (d : Device) : Type 0 where
   -- "1 ≤ V ≤ N ≤ 65,536"
   pub sizes : (1 ≤ d .visible) × (d .visible ≤ d .native) × (d .native ≤ 65536)
   -- "if a fill runs, first ≤ next < end ≤ V"
@@ -61,8 +61,8 @@ none-at (fillData a b ∷ ts) p h = absurd (omega arith)
 limit-at : (f : Fill) (first next end n : ℕ) → n ≤ pendingLimit f → f ≡ running first next end → n ≤ 0
 limit-at f first next end n h e = rw e at h
 
-pub valid-sound : (d : Device) → Valid d → Sound d
-valid-sound d v =
+pub valid-clauses : (d : Device) → Valid d → Clauses d
+valid-clauses d v =
     let c = v .commandValid in
     let s = v .settingsValid in
     let t = v .thermalValid in
@@ -119,8 +119,8 @@ limit-from : (f : Fill) (ts : List Transfer) → pendingCount ts ≤ 1 → ((fir
 limit-from idle ts one k = one
 limit-from (running first next end) ts one k = none-from ts (λ p. k first next end p refl)
 
-pub sound-valid : (d : Device) → Sound d → Stored d → Valid d
-sound-valid d s t =
+pub clauses-valid : (d : Device) → Clauses d → Stored d → Valid d
+clauses-valid d s t =
     record {
       sizes = s .sizes;
       commandValid =

@@ -16,27 +16,28 @@ use Rattle.model.specs.Fill.{Volume}
 use Rattle.model.specs.Decide.{Decision, decide}
 use Rattle.model.specs.Perform.{written, sent}
 use Rattle.model.specs.Machine.{Port, empty, request, reply, Machine, withPort}
-use Rattle.model.specs.Step.{Step, take, serve, give, work, lock, unlock, setVisible, sample, save, powerOn, isEmpty, isReply, checks, does, served, serveDecided, worked, step}
-use Rattle.model.proofs.StepLaws.{step-done, step-refused, answers-numbered, port-same, port-other}
+use Rattle.model.specs.Step.{Step, take, serve, give, work, lock, unlock, setVisible, sample, save, powerOn, isEmpty, isReply, Outcome, checks, does, served, serveDecided, worked, step}
+use Rattle.model.specs.Valid.{Each}
+use Rattle.model.proofs.StepLaws.{step-done, step-refused, answer-is, answers-numbered, port-same, port-other}
 use Rattle.model.proofs.RequestLaws.{Serves, serves}
 
--- a step that neither serves the port p nor is a power-on
-abbrev pub LeavesRequest : ℕ → Step → Type 0
-LeavesRequest p (take q m) = Unit {0}
-LeavesRequest p (serve s) = s .port ≡ p → ⊥
-LeavesRequest p (give q m) = Unit {0}
-LeavesRequest p (work n) = Unit {0}
-LeavesRequest p lock = Unit {0}
-LeavesRequest p unlock = Unit {0}
-LeavesRequest p (setVisible v) = Unit {0}
-LeavesRequest p (sample reading) = Unit {0}
-LeavesRequest p (save image used) = Unit {0}
-LeavesRequest p (powerOn image used) = ⊥
+-- a step that does not serve the port p, and is no power-on that is done; f is how a step acts on a state, as in a trace
+abbrev pub LeavesRequest : {S : Type 0} → (Step → S → Outcome S) → ℕ → Step → S → Type 0
+LeavesRequest f p (take q m) s = Unit {0}
+LeavesRequest f p (serve x) s = x .port ≡ p → ⊥
+LeavesRequest f p (give q m) s = Unit {0}
+LeavesRequest f p (work n) s = Unit {0}
+LeavesRequest f p lock s = Unit {0}
+LeavesRequest f p unlock s = Unit {0}
+LeavesRequest f p (setVisible v) s = Unit {0}
+LeavesRequest f p (sample reading) s = Unit {0}
+LeavesRequest f p (save image used) s = Unit {0}
+LeavesRequest f p (powerOn image used) s = f (powerOn image used) s .seen .answer ≡ 0 → ⊥
 
--- every step of a list
-abbrev pub Each : (Step → Type 0) → List Step → Type 0
-Each P [] = Unit {0}
-Each P (x ∷ xs) = P x × Each P xs
+-- .. and so every step of a list
+abbrev pub AllLeave : {S : Type 0} → (Step → S → Outcome S) → ℕ → List Step → S → Type 0
+AllLeave f p [] s = Unit {0}
+AllLeave f p (x ∷ xs) s = LeavesRequest f p x s × AllLeave f p xs (f x s .state)
 
 -- the machine after a list of steps
 abbrev pub after : List Step → Machine → Machine
@@ -55,7 +56,7 @@ module _ (p : ℕ) (m : List ℕ) (M : Machine) (held : M .ports p ≡ request m
       let z : _≡_ {A = ℕ} 0 1 = cc in
       omega arith
 
-  does-leaves : (x : Step) → LeavesRequest p x → firstFailed (checks x M) ≡ 0 → does x M .ports p ≡ request m
+  does-leaves : (x : Step) → LeavesRequest step p x M → firstFailed (checks x M) ≡ 0 → does x M .ports p ≡ request m
   unfolding served serveDecided worked
   does-leaves (take q n) l e =
       let pass = all-pass 8 (checks (take q n) M) (answers-numbered (take q n) M) e in
@@ -70,22 +71,22 @@ module _ (p : ℕ) (m : List ℕ) (M : Machine) (held : M .ports p ≡ request m
   does-leaves (setVisible v) l e = held
   does-leaves (sample reading) l e = held
   does-leaves (save image used) l e = held
-  does-leaves (powerOn image used) l e = absurd l
+  does-leaves (powerOn image used) l e = absurd (l (answer-is (powerOn image used) M ∙ e))
 
-  request-stays : (x : Step) → LeavesRequest p x → step x M .state .ports p ≡ request m
+  request-stays : (x : Step) → LeavesRequest step p x M → step x M .state .ports p ≡ request m
   request-stays x l = go (firstFailed (checks x M)) refl
     where
       go : (n : ℕ) → firstFailed (checks x M) ≡ n → step x M .state .ports p ≡ request m
       go zero e = rw (step-done x M e) (does-leaves x l e)
       go (suc n) e = rw (step-refused x M n e) held
 
--- THEOREM: a request in a port is the mailbox at its taking until it is served or power comes on.
-pub requests-stay : (p : ℕ) (m : List ℕ) (xs : List Step) (M : Machine) → M .ports p ≡ request m → Each (LeavesRequest p) xs → after xs M .ports p ≡ request m
+-- THEOREM: a request in a port is the mailbox at its taking until it is served or power comes on: a power-on that is refused leaves it too.
+pub requests-stay : (p : ℕ) (m : List ℕ) (xs : List Step) (M : Machine) → M .ports p ≡ request m → AllLeave step p xs M → after xs M .ports p ≡ request m
 requests-stay p m [] M held e = held
 requests-stay p m (x ∷ xs) M held e = requests-stay p m xs (step x M .state) (request-stays p m M held x (e .0)) (e .1)
 
 -- So it is served from those bytes, on the device and the disk of that moment, whatever mailboxes the steps between were fed.
-pub served-as-taken : (p : ℕ) (m : List ℕ) (xs : List Step) (M : Machine) → p < portCount → M .ports p ≡ request m → Each (LeavesRequest p) xs
+pub served-as-taken : (p : ℕ) (m : List ℕ) (xs : List Step) (M : Machine) → p < portCount → M .ports p ≡ request m → AllLeave step p xs M
     → (c : Decision) → decide p m (after xs M .device) ≡ c
     → Serves p (after xs M)
     (replyBytes (c .registers) (sent (c .effect) (record { device = c .device; disk = after xs M .disk })))

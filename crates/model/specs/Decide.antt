@@ -99,7 +99,7 @@ moves write table = false
 moves read (fillData first end) = false
 moves write (fillData first end) = true
 
--- the sectors that a transfer moves
+-- how many sectors a transfer moves: "count not 1". By kind, since W-202 adds transfers of two.
 abbrev pub sectorsOf : Transfer → ℕ
 sectorsOf none = 0
 sectorsOf table = 1

@@ -61,13 +61,13 @@ starred =
     -- "Start 63, Count 0 accepted." "Start 64, Count 0: 0002h."
     (key (fillKey 63 0), acceptedReply)
     ∷ (key (fillKey 64 0), refusedReply 0x0002)
-    -- "Start 0, Count 63 accepted; Count 64: 0002h." "Start 1, Count 2^64-1: 0002h."
+    -- "Start 0, Count 63 accepted; * Count 64: 0002h." "Start 1, Count 2^64-1: 0002h."
     ∷ (key (fillKey 0 63), acceptedReply)
     ∷ (key (fillKey 0 64), refusedReply 0x0002)
     ∷ (key (fillKey 1 (2 ^ 64 - 1)), refusedReply 0x0002)
     -- "Action 1: 0010h."
     ∷ (key (wordsKey 1 1 0 0 0), refusedReply 0x0010)
-    -- "Timer 9 for reads: 0006h; 10 accepted; 0 accepted."
+    -- "Timer 9 for reads: 0006h; * 10 accepted; * 0 accepted."
     ∷ (key (wordsKey 3 1 1 9 0), refusedReply 0x0006)
     ∷ (key (wordsKey 3 1 1 10 0), acceptedReply)
     ∷ (key (wordsKey 3 1 1 0 0), acceptedReply)

@@ -7,7 +7,7 @@ use Rattle.model.specs.Update.{withLocked, withVisible, withInitialized,
 use Rattle.model.specs.Temperature.{sampled}
 use Rattle.model.specs.Fill.{interrupt}
 
--- "Locking, unlocking and setting V do the same as other requests": they stop a fill and drop an owed transfer.
+-- "Locking, unlocking and setting V do the same as other requests": they stop a fill, and nothing stays pending.
 unfoldable pub setLock : Bool → Device → Device
 setLock b d = withLocked b (interrupt d)
 

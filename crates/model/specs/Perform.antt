@@ -40,7 +40,8 @@ fillSectorAfter (readLba lba) old = old
 fillSectorAfter (writeLba lba sector) old = old
 fillSectorAfter (beginFill first end sector) old = sector
 
--- the sectors that an effect may write, at once or by a fill that it begins: from the first up to the end
+-- The sectors that an effect may write, at once or by a fill that it begins: from the first up to the end. No rule of the base uses it; the laws
+-- that no hidden sector is written speak of it, and W-211 judges it.
 pub record Span : Type 0 where
   pub first : ℕ
   pub end : ℕ

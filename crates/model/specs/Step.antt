@@ -18,7 +18,7 @@ use Rattle.model.specs.Image.{saveChecks, savedImage, powerOnChecks, res
 use Rattle.model.specs.Image.{powerOn as powerOnDevice}
 use Rattle.model.specs.Machine.{Port, empty, request, reply, Machine, machine, withPort, heldBytes}
 
--- what a serve is fed
+-- what a serve is fed: a record, since W-211 adds a field
 pub record Serving : Type 0 where
   pub port : ℕ
 

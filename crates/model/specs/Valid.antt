@@ -34,7 +34,7 @@ pendingCount (none ∷ ts) = pendingCount ts
 pendingCount (table ∷ ts) = 1 + pendingCount ts
 pendingCount (fillData first end ∷ ts) = 1 + pendingCount ts
 
--- "a fill and an owed transfer never coexist", and there is one owed transfer at most
+-- "a fill and an owed transfer never coexist", and one transfer is pending at most
 abbrev pub pendingLimit : Fill → ℕ
 pendingLimit idle = 1
 pendingLimit (running first next end) = 0
@@ -105,7 +105,8 @@ pub record MachineValid (M : Machine) : Type 0 where
   pub portsValid : (p : ℕ) → PortValid (M .ports p)
   pub diskValid : Sized (sectorSize * M .device .native) (M .disk)
 
--- What a step is fed are bytes.
+-- What a step is fed are bytes: the mailbox of a take, a reading, the image of a power-on. Of a give's mailbox and a save's image the machine
+-- keeps nothing, so nothing is asked of them; ports, counts, V and used lengths are any numbers.
 abbrev pub Fed : Step → Type 0
 Fed (take p m) = Bytes m
 Fed (serve s) = Unit {0}
@@ -117,3 +118,8 @@ Fed (setVisible v) = Unit {0}
 Fed (sample reading) = reading < 256
 Fed (save image used) = Unit {0}
 Fed (powerOn image used) = Bytes image
+
+-- every step of a list
+abbrev pub Each : (Step → Type 0) → List Step → Type 0
+Each P [] = Unit {0}
+Each P (x ∷ xs) = P x × Each P xs

@@ -9,24 +9,45 @@ use Rattle.wire.specs.Choice.{firstFailed}
 use Rattle.wire.specs.Bytes.{Bytes}
 use Rattle.wire.proofs.ChoiceLaws.{all-pass}
 use Rattle.model.specs.Sizes.{portCount, mailboxSize}
+use Rattle.model.specs.Device.{Device}
 use Rattle.model.specs.Machine.{Machine, request}
-use Rattle.model.specs.Step.{Step, take, checks, step}
-use Rattle.model.specs.Valid.{Fed}
+use Rattle.model.specs.Image.{savedFrom}
+use Rattle.model.specs.Step.{Step, take, save, checks, step}
+use Rattle.model.specs.Valid.{Fed, Each}
 use Rattle.model.proofs.StepLaws.{step-done, answers-numbered, port-same}
-use Rattle.model.proofs.TakenLaws.{Each, LeavesRequest}
+use Rattle.model.proofs.TakenLaws.{AllLeave}
+use Rattle.model.proofs.PowerOnLaws.{KeptRules}
+use Rattle.store.specs.Areas.{recordSize, privateSize}
+use Rattle.store.specs.Record.{decode}
 use Rattle.store.specs.Store.{Store, machineOf}
-use Rattle.store.specs.Entries.{powerOnBytes}
+use Rattle.store.specs.Entries.{PowerOnAfter, powerOnBytes}
 use Rattle.store.specs.OnStore.{onStore}
 use Rattle.store.specs.Condition3.{started}
 use Rattle.store.proofs.FollowLaws.{StoreValid}
 use Rattle.store.proofs.StepFollows.{follows}
 use Rattle.store.proofs.Condition3Holds.{started-valid}
 use Rattle.store.proofs.AnswerLaws.{ListAnswersRight, list-answers, storeAfter, entry-answer, request-kept, step-answer}
+use Rattle.store.proofs.SavedBack.{power-on-saved, saved-read-back}
 
 -- the bytes stay valid along a list
 pub list-valid : (xs : List Step) (s : Store) → Each Fed xs → StoreValid s → StoreValid (storeAfter xs s)
 list-valid [] s fed v = v
 list-valid (x ∷ xs) s fed v = list-valid xs (onStore x s .state) (fed .1) (follows x s (fed .0) v .valid)
+
+-- a request taken from valid bytes stays
+taken-kept : (p : ℕ) (m : List ℕ) (xs : List Step) (s : Store) → Bytes m → Each Fed xs → StoreValid s → onStore (take p m) s .seen .answer ≡ 0
+    → AllLeave onStore p xs (onStore (take p m) s .state) → machineOf (storeAfter xs (onStore (take p m) s .state)) .ports p ≡ request m
+taken-kept p m xs s b fed v taken leaves =
+    let f = follows (take p m) s b v in
+    let done = sym (step-answer (take p m) s b v) ∙ taken in
+    request-kept p m xs (onStore (take p m) s .state) fed (f .valid)
+    (ap (λ (M : Machine). M .ports p) (f .same) ∙ rw (step-done (take p m) (machineOf s) done) (port-same p (request m) (machineOf s .ports)))
+    leaves
+
+-- a power-on that reads back what was saved of a device
+pub record ReadBack (saved : Device) (on : PowerOnAfter) : Type 0 where
+  pub answers : on .answer ≡ 0
+  pub kept : KeptRules (savedFrom saved) (decode (on .recordArea) .device)
 
 module _ (r a disk image : List ℕ) (used : ℕ) (answers : powerOnBytes r a disk image used .answer ≡ 0) (diskBytes : Bytes disk) (imageBytes : Bytes image) where
   abbrev start : Store
@@ -43,12 +64,23 @@ module _ (r a disk image : List ℕ) (used : ℕ) (answers : powerOnBytes r a di
   pub answers-after : (xs : List Step) → Each Fed xs → ListAnswersRight xs start
   answers-after xs fed = list-answers xs start fed start-valid
 
--- THEOREM: after a take that answers 0, the port's request is the mailbox at that taking, until it is served or power comes on.
-pub request-as-taken : (p : ℕ) (m : List ℕ) (xs : List Step) (s : Store) → Bytes m → Each Fed xs → StoreValid s → onStore (take p m) s .seen .answer ≡ 0
-    → Each (LeavesRequest p) xs → machineOf (storeAfter xs (onStore (take p m) s .state)) .ports p ≡ request m
-request-as-taken p m xs s b fed v taken leaves =
-    let f = follows (take p m) s b v in
-    let done = sym (step-answer (take p m) s b v) ∙ taken in
-    request-kept p m xs (onStore (take p m) s .state) fed (f .valid)
-    (ap (λ (M : Machine). M .ports p) (f .same) ∙ rw (step-done (take p m) (machineOf s) done) (port-same p (request m) (machineOf s .ports)))
-    leaves
+  -- THEOREM: after a take that answers 0 the port's request is the mailbox at that taking, whatever the steps after it, until it is served or a
+  -- power-on is done.
+  pub request-as-taken : (before after : List Step) (p : ℕ) (m : List ℕ) → Each Fed before → Each Fed after → Bytes m
+      → onStore (take p m) (storeAfter before start) .seen .answer ≡ 0
+      → AllLeave onStore p after (onStore (take p m) (storeAfter before start) .state)
+      → machineOf (storeAfter after (onStore (take p m) (storeAfter before start) .state)) .ports p ≡ request m
+  request-as-taken before after p m fed fedAfter b taken leaves =
+      taken-kept p m after (storeAfter before start) b fedAfter (valid-after before fed) taken leaves
+
+  -- THEOREM: an image saved after any list of steps is read back: a power-on from it answers 0, on that disk whatever was written to it since, and
+  -- gives what was saved, as the power-on rules keep it.
+  pub saved-back : (xs : List Step) → Each Fed xs → (i : List ℕ) (u : ℕ) → onStore (save i u) (storeAfter xs start) .seen .answer ≡ 0
+      → (anyRecord anyArea later : List ℕ) → length anyRecord ≡ recordSize → length anyArea ≡ privateSize → length later ≡ length (storeAfter xs start .disk)
+      → ReadBack (decode (storeAfter xs start .recordArea) .device) (powerOnBytes anyRecord anyArea later (onStore (save i u) (storeAfter xs start) .seen .image) (onStore (save i u) (storeAfter xs start) .seen .used))
+  saved-back xs fed i u saves r a later size private same =
+      let v = valid-after xs fed in
+      record {
+        answers = power-on-saved (storeAfter xs start) v i u saves r a later size private same;
+        kept = saved-read-back (storeAfter xs start) v i u saves r a later size private same;
+      }

@@ -1,5 +1,5 @@
 -- Condition 1, and which answers a list of steps can give.
-use mathlib.Core.Path.{_≡_, refl, sym, ap, _∙_}
+use mathlib.Core.Path.{_≡_, refl, sym, ap, subst, _∙_}
 use mathlib.Core.Bool.{Bool, true, false, _&&_}
 use mathlib.Core.Logic.{_↔_}
 use Prim.Native.Nat.{ℕ, zero, suc, _+_, _*_, _/_, _%_, _≤_, _<_}
@@ -16,11 +16,11 @@ use Rattle.model.specs.Image.{wholeSectors, readable, sameDisk, savedImage}
 use Rattle.model.specs.Image.{saveChecks as savingChecks}
 use Rattle.model.specs.Machine.{Port, Machine, request}
 use Rattle.model.specs.Step.{Step, take, serve, give, work, lock, unlock, setVisible, sample, save, powerOn, Seen, Outcome, checks, unchanged, step}
-use Rattle.model.specs.Valid.{Fed, MachineValid}
+use Rattle.model.specs.Valid.{Fed, Each, MachineValid}
 use Rattle.model.proofs.StepLaws.{keepsOrder, answer-first, answer-is, step-done, step-refused}
-use Rattle.model.proofs.TakenLaws.{Each, LeavesRequest, after, requests-stay}
+use Rattle.model.proofs.LimitLaws.{whole-sectors}
+use Rattle.model.proofs.TakenLaws.{LeavesRequest, AllLeave, after, requests-stay}
 use Rattle.model.proofs.RefusalLaws.{power-on-empty}
-use Rattle.model.proofs.SaveLaws.{power-on-after-save}
 use Rattle.store.specs.Areas.{recordSize, privateSize}
 use Rattle.store.specs.Record.{decode}
 use Rattle.store.specs.Store.{Store, machineOf}
@@ -175,16 +175,16 @@ list-answers (x ∷ xs) s fed v =
 -- ---- power-on
 
 -- THEOREM: a power-on answers 0 exactly where the paper names no refusal: the record and the private area have their sizes, the disk is
--- 1 to 65,536 whole sectors, the used length lies in the buffer, the image is readable, and its newest entry is this disk's.
+-- 1 to 65,536 whole sectors (512 to 33,554,432 bytes, a multiple of 512), the used length lies in the buffer, the image is readable, and its newest entry is this disk's.
 pub power-on-exactly : (r a disk image : List ℕ) (used : ℕ)
     → (powerOnBytes r a disk image used .answer ≡ 0)
-    ↔ ((length r ≡ recordSize) × (length a ≡ privateSize) × (wholeSectors (length disk) ≡ true) × (used ≤ length image) × (readable image used ≡ true) × (sameDisk (length disk / sectorSize) image used ≡ true))
+    ↔ ((length r ≡ recordSize) × (length a ≡ privateSize) × ((length disk % 512 ≡ 0) × (512 ≤ length disk) × (length disk ≤ 33554432)) × (used ≤ length image) × (readable image used ≡ true) × (sameDisk (length disk / sectorSize) image used ≡ true))
 power-on-exactly r a disk image used = (
   λ e.
       let pass = all-pass 8 (powerOnChecks r a disk image used) (omega arith) (sym (power-on-answer r a disk image used) ∙ e) in (
         eqb-true (length r) recordSize (pass .0),
         eqb-true (length a) privateSize (pass .1 .0),
-        pass .1 .1 .0,
+        whole-sectors (length disk) .0 (pass .1 .1 .0),
         leb-true used (length image) (pass .1 .1 .1 .0),
         pass .1 .1 .1 .1 .0,
         pass .1 .1 .1 .1 .1 .0,
@@ -192,33 +192,21 @@ power-on-exactly r a disk image used = (
   λ k.
       power-on-answer r a disk image used
       ∙ pass-all (powerOnChecks r a disk image used)
-      (eq-eqb (length r) recordSize (k .0), (eq-eqb (length a) privateSize (k .1), (k .2, (le-leb used (length image) (k .3), (k .4, (k .5, tt)))))),
+      (eq-eqb (length r) recordSize (k .0), (eq-eqb (length a) privateSize (k .1), (whole-sectors (length disk) .1 (k .2), (le-leb used (length image) (k .3), (k .4, (k .5, tt)))))),
 )
 
--- THEOREM: it does so for every disk of 1 to 65,536 whole sectors with used length 0 ..
-pub power-on-fresh : (r a disk image : List ℕ) → length r ≡ recordSize → length a ≡ privateSize → wholeSectors (length disk) ≡ true
+-- THEOREM: it does so for every disk of 1 to 65,536 whole sectors with used length 0.
+pub power-on-fresh : (r a disk image : List ℕ) (n : ℕ) → length r ≡ recordSize → length a ≡ privateSize → length disk ≡ 512 * n → 1 ≤ n → n ≤ 65536
     → powerOnBytes r a disk image 0 .answer ≡ 0
-power-on-fresh r a disk image size private whole =
+power-on-fresh r a disk image n size private sectors some most =
+    let whole : wholeSectors (length disk) ≡ true = whole-sectors (length disk) .1 (omega arith, omega arith, omega arith) in
     power-on-answer r a disk image 0
     ∙ rw (eq-eqb (length r) recordSize size, eq-eqb (length a) privateSize private) (power-on-empty disk image 0 whole)
 
--- .. and after every save that answered 0, from that image on that disk.
-pub power-on-saved : (s : Store) (image : List ℕ) (used : ℕ) (r a : List ℕ) → StoreValid s → onStore (save image used) s .seen .answer ≡ 0
-    → length r ≡ recordSize → length a ≡ privateSize
-    → powerOnBytes r a (s .disk) (onStore (save image used) s .seen .image) (onStore (save image used) s .seen .used) .answer ≡ 0
-power-on-saved s image used r a v e size private =
-    let passed = sym (entry-answer (save image used) s) ∙ e in
-    let d = decode (s .recordArea) .device in
-    let checked = pass-all (savingChecks (d .native) image used) (all-pass 8 (storeChecks (save image used) s) (entry-order (save image used) s .1) passed .1) in
-    rw (on-done (save image used) s passed)
-    (power-on-answer r a (s .disk) (savedImage d image used) (used + entrySize)
-    ∙ rw (eq-eqb (length r) recordSize size, eq-eqb (length a) privateSize private)
-    (power-on-after-save d image used (contents-valid s v .device) checked (s .disk) (v .disk .size)))
-
--- "it leaves the disk"
-pub power-on-disk : (image : List ℕ) (used : ℕ) (s : Store) → onStore (powerOn image used) s .state .disk ≡ s .disk
+-- a power-on leaves the disk
+pub power-on-leaves-disk : (image : List ℕ) (used : ℕ) (s : Store) → onStore (powerOn image used) s .state .disk ≡ s .disk
 unfolding onStore
-power-on-disk image used s = refl
+power-on-leaves-disk image used s = refl
 
 -- ---- requests
 
@@ -234,7 +222,27 @@ after-same (x ∷ xs) s fed v =
     let f = follows x s (fed .0) v in
     after-same xs (onStore x s .state) (fed .1) (f .valid) ∙ ap (after xs) (f .same)
 
+-- steps that leave a port's request on the bytes leave it in the machine
+step-leaves : (p : ℕ) (x : Step) (s : Store) → Fed x → StoreValid s → LeavesRequest onStore p x s → LeavesRequest step p x (machineOf s)
+step-leaves p (take q m) s fed v l = tt
+step-leaves p (serve x) s fed v l = l
+step-leaves p (give q m) s fed v l = tt
+step-leaves p (work n) s fed v l = tt
+step-leaves p lock s fed v l = tt
+step-leaves p unlock s fed v l = tt
+step-leaves p (setVisible n) s fed v l = tt
+step-leaves p (sample reading) s fed v l = tt
+step-leaves p (save image used) s fed v l = tt
+step-leaves p (powerOn image used) s fed v l = λ e. l (ap (λ (o : Seen). o .answer) (follows (powerOn image used) s fed v .seenSame) ∙ e)
+
+list-leaves : (p : ℕ) (xs : List Step) (s : Store) → Each Fed xs → StoreValid s → AllLeave onStore p xs s → AllLeave step p xs (machineOf s)
+list-leaves p [] s fed v l = tt
+list-leaves p (x ∷ xs) s fed v l =
+    let f = follows x s (fed .0) v in
+    (step-leaves p x s (fed .0) v (l .0), subst (AllLeave step p xs) (f .same) (list-leaves p xs (onStore x s .state) (fed .1) (f .valid) (l .1)))
+
 -- a request that a port holds stays there until it is served or power comes on
 pub request-kept : (p : ℕ) (m : List ℕ) (xs : List Step) (s : Store) → Each Fed xs → StoreValid s → machineOf s .ports p ≡ request m
-    → Each (LeavesRequest p) xs → machineOf (storeAfter xs s) .ports p ≡ request m
-request-kept p m xs s fed v held leaves = ap (λ (M : Machine). M .ports p) (after-same xs s fed v) ∙ requests-stay p m xs (machineOf s) held leaves
+    → AllLeave onStore p xs s → machineOf (storeAfter xs s) .ports p ≡ request m
+request-kept p m xs s fed v held leaves =
+    ap (λ (M : Machine). M .ports p) (after-same xs s fed v) ∙ requests-stay p m xs (machineOf s) held (list-leaves p xs s fed v leaves)

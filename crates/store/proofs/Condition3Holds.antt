@@ -11,8 +11,7 @@ use Rattle.wire.proofs.ChoiceLaws.{Numbered, all-pass, pass-all}
 use Rattle.model.specs.Image.{powerOnChecks as diskChecks}
 use Rattle.model.specs.Machine.{Machine}
 use Rattle.model.specs.Step.{Step, Outcome, Seen, poweredOn, firstAnswer, step, trace}
-use Rattle.model.specs.Valid.{Fed, MachineValid}
-use Rattle.model.proofs.TakenLaws.{Each}
+use Rattle.model.specs.Valid.{Fed, Each, MachineValid}
 use Rattle.model.proofs.ValidStep.{power-on-machine}
 use Rattle.model.proofs.HiddenLaws.{step-hidden, hidden}
 use Rattle.store.specs.Areas.{privateSize}
@@ -20,7 +19,7 @@ use Rattle.store.specs.Record.{encode}
 use Rattle.store.specs.Store.{Store, machineOf}
 use Rattle.store.specs.Entries.{PowerOnAfter, powerOnChecks, poweredContents, powerOnDone, powerOnBytes}
 use Rattle.store.specs.OnStore.{store, onStore}
-use Rattle.store.specs.Condition3.{asMachine, keptHidden, HiddenKept, started, Condition3}
+use Rattle.store.specs.Condition3.{asMachine, keptHidden, HiddenKept, started, FollowsMachine, Condition3}
 use Rattle.store.proofs.FollowLaws.{StoreValid, machine-valid}
 use Rattle.store.proofs.StepFollows.{Follows, follows, powered-store}
 
@@ -86,14 +85,16 @@ module _ (r a disk image : List ℕ) (used : ℕ) where
       started-machine : machineOf (started r a disk image used) ≡ poweredOn disk image used
       started-machine = ap machineOf started-is ∙ powered .1
 
-      -- CONDITION 3. "Start with a power-on that answers 0 .. on any disk and image. Consider every list of our steps after it".
-      -- Nothing is asked of the old record and private area; of what is fed, that bytes are bytes.
-      pub condition-3 : (xs : List Step) → Each Fed xs → Condition3 r a disk image used xs
+      follows-machine : (xs : List Step) → Each Fed xs → FollowsMachine r a disk image used xs
       unfolding firstAnswer
-      condition-3 xs fed =
+      follows-machine xs fed =
           record {
             sameAnswer = disk-passed;
             afterPowerOn = started-machine;
             afterEachStep = list-follows xs (started r a disk image used) fed started-valid ∙ ap (trace step xs) started-machine;
             hidden = list-hidden xs (started r a disk image used) fed started-valid;
           }
+
+-- THEOREM
+pub condition-3 : Condition3
+condition-3 r a disk image used answers diskBytes imageBytes xs fed = follows-machine r a disk image used answers diskBytes imageBytes xs fed

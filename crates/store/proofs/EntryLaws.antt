@@ -3,14 +3,13 @@ use mathlib.Core.Path.{_≡_, refl, sym, ap, _∙_}
 use mathlib.Core.Bool.{true, false}
 use Prim.Native.Nat.{ℕ, suc}
 use mathlib.Core.List.{List, [], _∷_}
-use Rattle.wire.specs.Choice.{between, Check, firstFailed}
-use Rattle.model.specs.Sizes.{badValue, done}
+use Rattle.wire.specs.Choice.{Check, firstFailed}
+use Rattle.model.specs.Sizes.{done}
 use Rattle.model.specs.Owner.{setLock}
 use Rattle.model.specs.Owner.{setVisible as setVisibleDevice, sample as sampleDevice}
 use Rattle.model.specs.Step.{Step, take, serve, give, work, lock, unlock, setVisible, sample, save, powerOn, Seen, Outcome, answerOnly, answeredMailbox, answeredImage, unchanged}
-use Rattle.store.specs.Record.{decode}
 use Rattle.store.specs.Store.{Store}
-use Rattle.store.specs.Entries.{soundRecord, takeChecks, takeDone, takeBytes, serveChecks, serveDone, serveBytes, giveChecks, giveDone, giveBytes, workChecks, workDone, workBytes, ownerDone, lockBytes, unlockBytes, setVisibleBytes, sampleBytes, saveChecks, saveDone, saveBytes, powerOnChecks, powerOnDone, powerOnBytes}
+use Rattle.store.specs.Entries.{soundRecord, takeChecks, takeDone, takeBytes, serveChecks, serveDone, serveBytes, giveChecks, giveDone, giveBytes, workChecks, workDone, workBytes, ownerDone, lockBytes, unlockBytes, visibleChecks, setVisibleBytes, sampleBytes, saveChecks, saveDone, saveBytes, powerOnChecks, powerOnDone, powerOnBytes}
 use Rattle.store.specs.OnStore.{store, onStore}
 
 -- the checks of an entry
@@ -21,7 +20,7 @@ storeChecks (give p m) s = giveChecks (s .recordArea) p m (s .privateArea)
 storeChecks (work n) s = workChecks (s .recordArea) (s .privateArea) (s .disk)
 storeChecks lock s = soundRecord (s .recordArea) ∷ []
 storeChecks unlock s = soundRecord (s .recordArea) ∷ []
-storeChecks (setVisible v) s = soundRecord (s .recordArea) ∷ (between 1 v (decode (s .recordArea) .device .native), badValue) ∷ []
+storeChecks (setVisible v) s = visibleChecks (s .recordArea) v
 storeChecks (sample reading) s = soundRecord (s .recordArea) ∷ []
 storeChecks (save image used) s = saveChecks (s .recordArea) image used
 storeChecks (powerOn image used) s = powerOnChecks (s .recordArea) (s .privateArea) (s .disk) image used

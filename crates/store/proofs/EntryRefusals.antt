@@ -1,14 +1,17 @@
 -- The answer table at the entries, in numbers: an entry that passes the checks before and fails this one has this answer.
 use mathlib.Core.Path.{_≡_, refl, sym, ap, _∙_}
 use mathlib.Core.Bool.{Bool, true, false, _&&_}
-use Prim.Native.Nat.{ℕ, zero, suc, _*_, _≤_, _<_}
+use Prim.Native.Nat.{ℕ, zero, suc, _*_, _/_, _≤_, _<_}
 use native.Mathlib.Omega.{arith}
 use mathlib.Core.List.{List, [], _∷_}
 use lib.ListN.{length}
 use lib.Dec.{eqb, leb, ltb}
 use borrow.Author.Tests.{eqb-true, eq-eqb, ne-eqb, lt-ltb, le-ltb, lt-leb, le-leb}
 use Rattle.wire.specs.Choice.{firstFailed}
+use Rattle.model.specs.Image.{readable, sameDisk, hasRoom, wholeSectors}
+use Rattle.model.specs.Image.{powerOnChecks as diskChecks}
 use Rattle.model.specs.Step.{Step, Serving, take, serve, give, work, lock, unlock, setVisible, sample, save, powerOn}
+use Rattle.model.proofs.RefusalLaws.{power-on-disk, power-on-length, power-on-unreadable, power-on-other}
 use Rattle.store.specs.Record.{Stage, empty, held, answered, decode}
 use Rattle.store.specs.Sound.{sound}
 use Rattle.store.specs.Store.{Store, stageFor}
@@ -121,10 +124,48 @@ module _ (s : Store) (isSound : sound (s .recordArea) ≡ true) where
   pub visible-above : (v : ℕ) → decode (s .recordArea) .device .native < v → answerOf (setVisible v) s ≡ 5
   visible-above v h = entry-answer (setVisible v) s ∙ rw (isSound, le-leb 1 v (omega arith), lt-leb v (decode (s .recordArea) .device .native) h)
 
+  -- save. 2: "an image's used length exceeds its buffer"
+  module _ (image : List ℕ) (used : ℕ) where
+    pub save-used : length image < used → answerOf (save image used) s ≡ 2
+    save-used h = entry-answer (save image used) s ∙ rw (isSound, lt-leb used (length image) h)
+
+    -- 6: "image not readable by the rules below"; 7: "newest entry's N is not this disk's"; 8: full
+    module _ (fits : used ≤ length image) where
+      pub save-unreadable : readable image used ≡ false → answerOf (save image used) s ≡ 6
+      save-unreadable e = entry-answer (save image used) s ∙ rw (isSound, le-leb used (length image) fits, e)
+
+      module _ (read : readable image used ≡ true) where
+        pub save-other : sameDisk (decode (s .recordArea) .device .native) image used ≡ false → answerOf (save image used) s ≡ 7
+        save-other e = entry-answer (save image used) s ∙ rw (isSound, le-leb used (length image) fits, read, e)
+
+        pub save-full : sameDisk (decode (s .recordArea) .device .native) image used ≡ true → hasRoom image used ≡ false → answerOf (save image used) s ≡ 8
+        save-full own e = entry-answer (save image used) s ∙ rw (isSound, le-leb used (length image) fits, read, own, e)
+
 -- ---- power-on: "a record run of another size is 2 there"
 
-pub on-record : (image : List ℕ) (used : ℕ) (s : Store) → (length (s .recordArea) ≡ 1024 → ⊥) → answerOf (powerOn image used) s ≡ 2
-on-record image used s ne = entry-answer (powerOn image used) s ∙ rw (ne-eqb (length (s .recordArea)) 1024 ne)
+module _ (image : List ℕ) (used : ℕ) (s : Store) where
+  pub on-record : (length (s .recordArea) ≡ 1024 → ⊥) → answerOf (powerOn image used) s ≡ 2
+  on-record ne = entry-answer (powerOn image used) s ∙ rw (ne-eqb (length (s .recordArea)) 1024 ne)
 
-pub on-private : (image : List ℕ) (used : ℕ) (s : Store) → length (s .recordArea) ≡ 1024 → (length (s .privateArea) ≡ 2624 → ⊥) → answerOf (powerOn image used) s ≡ 2
-on-private image used s e ne = entry-answer (powerOn image used) s ∙ rw (eq-eqb (length (s .recordArea)) 1024 e, ne-eqb (length (s .privateArea)) 2624 ne)
+  module _ (size : length (s .recordArea) ≡ 1024) where
+    pub on-private : (length (s .privateArea) ≡ 2624 → ⊥) → answerOf (powerOn image used) s ≡ 2
+    on-private ne = entry-answer (powerOn image used) s ∙ rw (eq-eqb (length (s .recordArea)) 1024 size, ne-eqb (length (s .privateArea)) 2624 ne)
+
+    module _ (private : length (s .privateArea) ≡ 2624) where
+      -- the answer is then the machine's: 2 for the disk and the used length, 6 and 7
+      on-areas : answerOf (powerOn image used) s ≡ firstFailed (diskChecks (s .disk) image used)
+      on-areas = entry-answer (powerOn image used) s ∙ rw (eq-eqb (length (s .recordArea)) 1024 size, eq-eqb (length (s .privateArea)) 2624 private)
+
+      pub on-disk : wholeSectors (length (s .disk)) ≡ false → answerOf (powerOn image used) s ≡ 2
+      on-disk e = on-areas ∙ power-on-disk (s .disk) image used e
+
+      module _ (whole : wholeSectors (length (s .disk)) ≡ true) where
+        pub on-used : length image < used → answerOf (powerOn image used) s ≡ 2
+        on-used h = on-areas ∙ power-on-length (s .disk) image used whole h
+
+        module _ (fits : used ≤ length image) where
+          pub on-unreadable : readable image used ≡ false → answerOf (powerOn image used) s ≡ 6
+          on-unreadable e = on-areas ∙ power-on-unreadable (s .disk) image used whole fits e
+
+          pub on-other : readable image used ≡ true → sameDisk (length (s .disk) / 512) image used ≡ false → answerOf (powerOn image used) s ≡ 7
+          on-other read e = on-areas ∙ power-on-other (s .disk) image used whole fits read e

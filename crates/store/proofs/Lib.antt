@@ -11,6 +11,7 @@ pub mod StepFollows
 pub mod Condition3Holds
 pub mod AnswerLaws
 pub mod EntryRefusals
+pub mod SavedBack
 pub mod AfterPowerOn
 pub mod Lossless
 pub mod UntouchedLaws

@@ -20,6 +20,7 @@ use Rattle.model.specs.Device.{Fill, idle, running, Transfer, none, table, fill
 use Rattle.model.specs.Key.{highestState}
 use Rattle.model.specs.Fill.{runningCode}
 use Rattle.model.specs.Valid.{FillValid, TransferValid, PendingValid, pendingCount, pendingLimit, CodeValid, CommandValid, TimerValid, SettingsValid, ThermalValid, Valid}
+use Rattle.model.proofs.SoundLaws.{Clauses, Stored, valid-clauses, clauses-valid}
 use Rattle.store.specs.Areas.{recordSize, headSize}
 use Rattle.store.specs.Record.{Stage, Contents, fillOf, transferOf, transferAt, encode, decode}
 use Rattle.store.specs.Sound.{fillSound, transferSound, pendingSound, commandSound, timerSound, settingsSound, deviceSound, sound}
@@ -221,6 +222,10 @@ sound-valid r b e =
     four : length (decode r .stages) ≡ 4
     four = unfold decode in refl
 
+-- THEOREM: the same in document 01's numbers, clause by clause.
+pub sound-clauses : (r : List ℕ) → Bytes r → sound r ≡ true → Clauses (decode r .device)
+sound-clauses r b e = valid-clauses (decode r .device) (sound-valid r b e .device)
+
 -- THEOREM: the record of contents that meet the clauses is sound.
 pub sound-encode : (c : Contents) → ContentsValid c → sound (encode c) ≡ true
 sound-encode c v =
@@ -231,6 +236,10 @@ sound-encode c v =
       again = ap encode back;
       tests = ap (λ (x : Contents). deviceSound (x .device)) back ∙ clauses-tests (c .device) (v .device);
     })
+
+-- .. again in document 01's numbers; what else is asked is that the values fit their places
+pub clauses-sound : (c : Contents) → Clauses (c .device) → Stored (c .device) → length (c .stages) ≡ 4 → sound (encode c) ≡ true
+clauses-sound c clauses stored four = sound-encode c (record { device = clauses-valid (c .device) clauses stored; four = four })
 
 -- THEOREM: values that fit their places meet the clauses exactly where their record is sound.
 pub sound-exactly : (c : Contents) → ContentsFit c → (sound (encode c) ≡ true) ↔ ContentsValid c

@@ -26,6 +26,14 @@ use Rattle.model.proofs.ValidRequest.{decide-valid}
 use Rattle.store.proofs.EntryLaws.{storeChecks, doneStore, on-done}
 use Rattle.store.proofs.FollowLaws.{StoreValid, contents-valid, slot-sized}
 use Rattle.store.proofs.StepFollows.{answer-sized}
+use Rattle.store.proofs.AnswerLaws.{entry-answer}
+
+-- "four slots of 528, then the fill sector"
+pub area-places : (p : ℕ) → (slotPlace p ≡ 528 * p) × (fillPlace ≡ 2112) × (privateSize ≡ 2624)
+area-places p = (refl, refl, refl)
+
+passed : (x : Step) (s : Store) → onStore x s .seen .answer ≡ 0 → firstFailed (storeChecks x s) ≡ 0
+passed x s answers = sym (entry-answer x s) ∙ answers
 
 -- i is no byte of slot p
 abbrev pub OutsideSlot : ℕ → ℕ → Type 0
@@ -36,9 +44,10 @@ slot-stored a x p i e (inl h) = getD-sets-before x a (slotPlace p) i h
 slot-stored a x p i e (inr h) = getD-sets-after x a (slotPlace p) i (omega arith)
 
 -- take: the other slots and the fill sector stay
-pub take-leaves : (p : ℕ) (m : List ℕ) (s : Store) (i : ℕ) → firstFailed (storeChecks (take p m) s) ≡ 0 → OutsideSlot p i
+pub take-leaves : (p : ℕ) (m : List ℕ) (s : Store) (i : ℕ) → onStore (take p m) s .seen .answer ≡ 0 → OutsideSlot p i
     → getD (onStore (take p m) s .state .privateArea) i 0 ≡ getD (s .privateArea) i 0
-take-leaves p m s i e out =
+take-leaves p m s i answers out =
+    let e = passed (take p m) s answers in
     let size = eqb-true (length m) mailboxSize (all-pass 8 (storeChecks (take p m) s) (omega arith) e .1 .0) in
     rw (on-done (take p m) s e) (slot-stored (s .privateArea) m p i size out)
 
@@ -70,9 +79,9 @@ unfolding onStore
 owner-disk v reading s = (refl, refl, refl, refl)
 
 -- "private area all zeros"
-pub power-on-zeroes : (image : List ℕ) (used : ℕ) (s : Store) → firstFailed (storeChecks (powerOn image used) s) ≡ 0
+pub power-on-zeroes : (image : List ℕ) (used : ℕ) (s : Store) → onStore (powerOn image used) s .seen .answer ≡ 0
     → onStore (powerOn image used) s .state .privateArea ≡ zeros 2624
-power-on-zeroes image used s e = rw (on-done (powerOn image used) s e)
+power-on-zeroes image used s answers = rw (on-done (powerOn image used) s (passed (powerOn image used) s answers))
 
 -- serve: the other slots stay, and the fill sector unless a fill begins
 abbrev pub BeginsFill : Effect → Type 0
@@ -99,7 +108,7 @@ fill-before (readLba lba) b i h = refl
 fill-before (writeLba lba sector) b i h = refl
 fill-before (beginFill first end sector) b i h = getD-sets-before sector b fillPlace i h
 
-module _ (x : Serving) (s : Store) (v : StoreValid s) (passed : firstFailed (storeChecks (serve x) s) ≡ 0) where
+module _ (x : Serving) (s : Store) (v : StoreValid s) (answers : onStore (serve x) s .seen .answer ≡ 0) where
   abbrev decision : Decision
   decision = decide (x .port) (slotBytes (x .port) (s .privateArea)) (decode (s .recordArea) .device)
 
@@ -108,7 +117,7 @@ module _ (x : Serving) (s : Store) (v : StoreValid s) (passed : firstFailed (sto
 
   reply-size : length reply ≡ slotSize
   reply-size =
-      let port = ltb-true (x .port) portCount (all-pass 8 (storeChecks (serve x) s) (omega arith) passed .1 .1 .1 .0) in
+      let port = ltb-true (x .port) portCount (all-pass 8 (storeChecks (serve x) s) (omega arith) (passed (serve x) s answers) .1 .1 .1 .0) in
       let valid =
       decide-valid (x .port) (slotBytes (x .port) (s .privateArea)) (decode (s .recordArea) .device) (contents-valid s v .device)
       (slot-sized (s .privateArea) (x .port) (v .private) port) in
@@ -116,10 +125,10 @@ module _ (x : Serving) (s : Store) (v : StoreValid s) (passed : firstFailed (sto
 
   pub serve-leaves-slots : (i : ℕ) → i < fillPlace → OutsideSlot (x .port) i → getD (onStore (serve x) s .state .privateArea) i 0 ≡ getD (s .privateArea) i 0
   serve-leaves-slots i h out =
-      rw (on-done (serve x) s passed)
+      rw (on-done (serve x) s (passed (serve x) s answers))
       (fill-before (decision .effect) (sets (s .privateArea) (slotPlace (x .port)) reply) i h ∙ slot-stored (s .privateArea) reply (x .port) i reply-size out)
 
   pub serve-leaves-sector : (i : ℕ) → (BeginsFill (decision .effect) → ⊥) → OutsideSlot (x .port) i → getD (onStore (serve x) s .state .privateArea) i 0 ≡ getD (s .privateArea) i 0
   serve-leaves-sector i none out =
-      rw (on-done (serve x) s passed, fill-left (decision .effect) (sets (s .privateArea) (slotPlace (x .port)) reply) none)
+      rw (on-done (serve x) s (passed (serve x) s answers), fill-left (decision .effect) (sets (s .privateArea) (slotPlace (x .port)) reply) none)
       (slot-stored (s .privateArea) reply (x .port) i reply-size out)

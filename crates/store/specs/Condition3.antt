@@ -5,7 +5,9 @@ use mathlib.Core.List.{List, [], _∷_, map}
 use lib.ListN.{drop}
 use Rattle.model.specs.Sizes.{sectorSize}
 use Rattle.model.specs.Machine.{Machine}
+use Rattle.wire.specs.Bytes.{Bytes}
 use Rattle.model.specs.Step.{Step, Outcome, poweredOn, firstAnswer, step, trace}
+use Rattle.model.specs.Valid.{Fed, Each}
 use Rattle.store.specs.Store.{Store, machineOf}
 use Rattle.store.specs.Entries.{powerOnBytes}
 use Rattle.store.specs.OnStore.{store, onStore}
@@ -31,10 +33,18 @@ started r a disk image used =
     store (o .recordArea) (o .privateArea) disk
 
 -- "The model machine of our first paper makes the same power-on, from the same image and disk, and runs the same list."
-pub record Condition3 (r a disk image : List ℕ) (used : ℕ) (xs : List Step) : Type 0 where
+pub record FollowsMachine (r a disk image : List ℕ) (used : ℕ) (xs : List Step) : Type 0 where
   pub sameAnswer : firstAnswer disk image used ≡ 0
   -- "After the power-on and after each step our device and every byte of the disk equal the model machine's. Every answer number,
   -- every count of sectors written, every reply delivered and every saved image is the same too."
   pub afterPowerOn : machineOf (started r a disk image used) ≡ poweredOn disk image used
   pub afterEachStep : map asMachine (trace onStore xs (started r a disk image used)) ≡ trace step xs (poweredOn disk image used)
   pub hidden : HiddenKept xs (started r a disk image used)
+
+-- CONDITION 3. "Start with a power-on that answers 0 .. on any disk and image. Consider every list of our steps after it: .. refused ones
+-- included, in any order, with any inputs". Nothing is asked of the old record and private area; of disk, image and what is fed, that
+-- bytes are bytes.
+abbrev pub Condition3 : Type 0
+Condition3 =
+    (r a disk image : List ℕ) (used : ℕ) → powerOnBytes r a disk image used .answer ≡ 0 → Bytes disk → Bytes image
+    → (xs : List Step) → Each Fed xs → FollowsMachine r a disk image used xs

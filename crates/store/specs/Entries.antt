@@ -24,7 +24,7 @@ use Rattle.store.specs.Store.{slotBytes, fillSectorOf, stageFor}
 
 -- ---- checks that entries share
 
--- "4 record: device record unsound", which a record of another size is too
+-- 4, "device record unsound", which a record of another size is too
 abbrev pub soundRecord : List ℕ → Check
 soundRecord r = (sound r, badRecord)
 
@@ -33,8 +33,8 @@ abbrev pub ofSize : ℕ → List ℕ → Check
 ofSize n buffer = (eqb (length buffer) n, badLength)
 
 -- "the disk isn't N sectors"
-abbrev pub wholeDisk : List ℕ → List ℕ → Check
-wholeDisk r disk = ofSize (sectorSize * decode r .device .native) disk
+abbrev pub diskSized : List ℕ → List ℕ → Check
+diskSized r disk = ofSize (sectorSize * decode r .device .native) disk
 
 abbrev pub goodPort : ℕ → Check
 goodPort p = (ltb p portCount, badPort)
@@ -99,7 +99,7 @@ pub record ServeAfter : Type 0 where
   pub disk : List ℕ
 
 abbrev pub serveChecks : List ℕ → ℕ → List ℕ → List ℕ → List Check
-serveChecks r p a disk = soundRecord r ∷ ofSize privateSize a ∷ wholeDisk r disk ∷ goodPort p ∷ inStage isHeld r p ∷ []
+serveChecks r p a disk = soundRecord r ∷ ofSize privateSize a ∷ diskSized r disk ∷ goodPort p ∷ inStage isHeld r p ∷ []
 
 -- a fill that begins has its sector in the private area
 abbrev pub withFillSector : Effect → List ℕ → List ℕ
@@ -158,7 +158,7 @@ pub record WorkAfter : Type 0 where
   pub disk : List ℕ
 
 abbrev pub workChecks : List ℕ → List ℕ → List ℕ → List Check
-workChecks r a disk = soundRecord r ∷ ofSize privateSize a ∷ wholeDisk r disk ∷ []
+workChecks r a disk = soundRecord r ∷ ofSize privateSize a ∷ diskSized r disk ∷ []
 
 -- "writes the next sectors of a running fill, as many as n and what is left allow, and reports how many it wrote"
 abbrev pub workDone : List ℕ → List ℕ → List ℕ → ℕ → WorkAfter
@@ -208,6 +208,7 @@ sampleBytes r reading = ownerBytes (soundRecord r ∷ []) (sample reading) r
 
 -- ---- save: record, image, used length
 
+-- the C caller is told the used length by the answer: after 0 it is 560 more
 pub record SaveAfter : Type 0 where
   pub answer : ℕ
   pub image : List ℕ

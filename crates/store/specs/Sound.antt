@@ -29,7 +29,7 @@ abbrev pub pendingSound : ℕ → List Transfer → Bool
 pendingSound visible [] = true
 pendingSound visible (t ∷ ts) = transferSound visible t && pendingSound visible ts
 
--- "a fill and an owed transfer never coexist", and at most one is owed
+-- "a fill and an owed transfer never coexist", and one transfer is pending at most
 unfoldable pub commandSound : ℕ → Command → Bool
 commandSound visible c =
     fillSound visible (c .code) (c .fill)

@@ -1,4 +1,4 @@
--- The three areas that the firmware lends for good, and the machine that they say.
+-- The three buffers that the steps hand on to each other, and the machine that they say.
 use Prim.Native.Nat.{ℕ}
 use mathlib.Core.List.{List}
 use lib.ListN.{getD}
