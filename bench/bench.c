@@ -6,7 +6,8 @@
  *   bench [rounds]      31 rounds if none are given
  *
  * "Exchange" is take, serve and give in a row. The reference opens the record
- * into a struct, decides, and writes it back: an honest, plain C program.
+ * into a struct, decides, and writes it back: an honest, plain C program. In
+ * one row memcpy stands in the reference's column.
  */
 #define _POSIX_C_SOURCE 200809L
 
@@ -161,18 +162,23 @@ static double run_work_one(const struct implementation *code, unsigned times)
 }
 
 /* No entry at all: what the copies alone cost. */
-static double run_copies(const struct implementation *code, unsigned times)
+static double run_copies(unsigned times)
 {
     static uint8_t sector[SCT_SECTOR_BYTES];
     double from = nanoseconds_now();
 
-    (void)code;
     for (unsigned i = 0; i < times; i++) {
         for (size_t k = 0; k < SECTORS; k++)
             memcpy(disk + k * SCT_SECTOR_BYTES, sector, SCT_SECTOR_BYTES);
         __asm__ volatile("" : : : "memory");    /* they are not for nothing */
     }
     return (nanoseconds_now() - from) / times / SECTORS;
+}
+
+/* The archive's work beside memcpy of 512 bytes, which takes the reference's place. */
+static double run_work_or_copies(const struct implementation *code, unsigned times)
+{
+    return code == &archive ? run_work_all(code, times) : run_copies(times);
 }
 
 static void make_image(unsigned entries)
@@ -282,7 +288,7 @@ static const struct {
     { "exchange: sector write",               run_write,        4000 },
     { "work, a sector, 4096 in a call",       run_work_all,        2 },
     { "work, a sector, one in a call",        run_work_one,        1 },
-    { "memcpy of 512 bytes, a sector",        run_copies,          2 },
+    { "work, a sector, beside memcpy",        run_work_or_copies,  2 },
     { "lock",                                 run_lock,         8000 },
     { "set V",                                run_set_visible,  8000 },
     { "sample",                               run_sample,       8000 },
@@ -342,10 +348,7 @@ int main(int count, char **words)
         double a = median(results[m][0], rounds);
         double b = median(results[m][1], rounds);
 
-        if (measures[m].run == run_copies)
-            printf("%-36s %10.1f\n", measures[m].name, a < b ? a : b);
-        else
-            printf("%-36s %10.1f %10.1f %8.2f\n", measures[m].name, a, b, a / b);
+        printf("%-36s %10.1f %10.1f %8.2f\n", measures[m].name, a, b, a / b);
     }
     return 0;
 }
