@@ -226,13 +226,13 @@ powerOnSettings s = settingsOf (s .writeCache) (s .reordering) (s .logInterval)
 -- ".. with "now" and this cycle's maximum missing. The history is kept if the interval after power-on equals the saved one; minutes are 0."
 abbrev pub powerOnThermal : Saved → Thermal
 powerOnThermal s =
-    let same = eqb (kept (s .logInterval) .state) (s .logInterval .state) in
+    let sameInterval = eqb (kept (s .logInterval) .state) (s .logInterval .state) in
     record {
       now = missing;
       cycleMaximum = missing;
       lifeMaximum = s .lifeMaximum;
-      history = if same then s .history else emptyHistory;
-      index = if same then s .index else emptyIndex;
+      history = if sameInterval then s .history else emptyHistory;
+      index = if sameInterval then s .index else emptyIndex;
       minutes = 0;
     }
 
