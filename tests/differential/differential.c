@@ -58,7 +58,7 @@ static void put_number(uint64_t number)
 
 static void on_signal(int signal)
 {
-    put_text(signal == SIGALRM ? "\na call does not return" : "\na call touched memory that is not lent");
+    put_text(signal == SIGALRM ? "\na call does not return" : "\na call touched memory that it was not given");
     if (place_step == 0) {
         put_text(", in a sweep\n");
         _exit(1);

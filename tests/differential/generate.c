@@ -453,7 +453,7 @@ static void plan_new_image(struct list *l)
     plan_save(l);
 }
 
-/* One byte of the image changes; then it is read, and sometimes mended. */
+/* One byte of the image changes; then it is read, and sometimes put right. */
 static void plan_damage(struct list *l)
 {
     static const uint8_t values[] = { 0, 1, 2, 3, 8, 0x7F, 0x80, 0xFE, 0xFF };
@@ -787,14 +787,14 @@ static void wrong_disk(struct list *l, struct step *step)
                        : wrong_length(&l->random, step->length[DISK], most);
 }
 
-/* Makes some of the lent lengths wrong, and some of the numbers. */
+/* Makes some of the passed lengths wrong, and some of the numbers. */
 static void distort(struct list *l, struct step *step)
 {
     struct random *r = &l->random;
 
     step->null_if_empty = once_in(r, 2);
     for (enum buffer b = 0; b < BUFFERS; b++) {
-        if (!entry_is_lent(step->entry, b) || once_in(r, 2))
+        if (!entry_has(step->entry, b) || once_in(r, 2))
             continue;
         if (b == DISK)
             wrong_disk(l, step);

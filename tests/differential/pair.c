@@ -6,7 +6,7 @@
 #include "bytes.h"
 #include "layout.h"
 
-/* The longest loan of each buffer: right lengths, and wrong ones above them. */
+/* The longest that each buffer gets: right lengths, and wrong ones above them. */
 static const size_t room[BUFFERS] = {
     2 * SCT_RECORD_BYTES, 2 * SCT_PRIVATE_BYTES, 2 * SCT_MAILBOX_BYTES, IMAGE_ROOM,
     (size_t)SCT_NATIVE_LIMIT * SCT_SECTOR_BYTES
@@ -16,9 +16,9 @@ enum { OTHER_DISK_ROOM = (SCT_NATIVE_LIMIT + 2) * SCT_SECTOR_BYTES, OTHER_DISK_S
 
 enum { LARGE_DISK = 4096, MOST_PUT_OFF = 64 };
 
-enum { FILLER = 0xEE };     /* behind the known bytes of a loan that is too long */
+enum { FILLER = 0xEE };     /* behind the known bytes of a buffer that is too long */
 
-/* What is lent in this step, to both sides alike. The disk stands elsewhere. */
+/* What is passed in this step, to both sides alike. The disk stands elsewhere. */
 static uint8_t before[DISK][IMAGE_ROOM];
 
 /* ---- Making and resetting ------------------------------------------------ */
@@ -66,7 +66,7 @@ void pair_reset(struct pair *pair, struct random *r, uint64_t sectors, enum plac
     for (int s = 0; s < 2; s++) {
         size_t length = (size_t)sectors * SCT_SECTOR_BYTES;
 
-        memcpy(arena_lend(&pair->side[s].arena[DISK], length, placement, pair->shift), pair->disk, length);
+        memcpy(arena_place(&pair->side[s].arena[DISK], length, placement, pair->shift), pair->disk, length);
     }
 }
 
@@ -114,14 +114,14 @@ static void edit(struct pair *pair, const struct step *step)
     }
 }
 
-/* ---- Lending -------------------------------------------------------------- */
+/* ---- Placing the buffers -------------------------------------------------- */
 
 static bool disk_is_other(const struct pair *pair, const struct step *step)
 {
     return step->length[DISK] != pair->sectors * SCT_SECTOR_BYTES;
 }
 
-/* The known bytes of a buffer, then filler up to the lent length. */
+/* The known bytes of a buffer, then filler up to the length that is passed. */
 static void prepare(enum buffer buffer, const uint8_t *known, size_t known_length, size_t length)
 {
     size_t copied = length < known_length ? length : known_length;
@@ -133,11 +133,11 @@ static void prepare(enum buffer buffer, const uint8_t *known, size_t known_lengt
 static void prepare_all(const struct pair *pair, const struct step *step)
 {
     prepare(RECORD, pair->record, sizeof pair->record, step->length[RECORD]);
-    if (entry_is_lent(step->entry, PRIVATE_AREA))
+    if (entry_has(step->entry, PRIVATE_AREA))
         prepare(PRIVATE_AREA, pair->private_area, sizeof pair->private_area, step->length[PRIVATE_AREA]);
-    if (entry_is_lent(step->entry, MAILBOX))
+    if (entry_has(step->entry, MAILBOX))
         prepare(MAILBOX, step->mailbox, sizeof step->mailbox, step->length[MAILBOX]);
-    if (entry_is_lent(step->entry, IMAGE))
+    if (entry_has(step->entry, IMAGE))
         prepare(IMAGE, pair->image, sizeof pair->image, step->length[IMAGE]);
 }
 
@@ -147,31 +147,31 @@ static size_t other_disk_seen(size_t length)
     return length < OTHER_DISK_SEEN ? length : OTHER_DISK_SEEN;
 }
 
-static uint8_t *lend_disk(const struct pair *pair, struct side *side, const struct step *step)
+static uint8_t *place_disk(const struct pair *pair, struct side *side, const struct step *step)
 {
     size_t length = step->length[DISK];
     uint8_t *at;
 
     if (!disk_is_other(pair, step))
-        return side->arena[DISK].loan;
-    at = arena_lend(&side->other_disk, length, pair->placement, pair->shift);
+        return side->arena[DISK].buffer;
+    at = arena_place(&side->other_disk, length, pair->placement, pair->shift);
     memset(at, 0, other_disk_seen(length));
     return at;
 }
 
-static void lend_all(const struct pair *pair, struct side *side, const struct step *step)
+static void place_all(const struct pair *pair, struct side *side, const struct step *step)
 {
     for (enum buffer b = 0; b < BUFFERS; b++) {
         size_t length = step->length[b];
 
-        side->lent[b] = NULL;
-        if (!entry_is_lent(step->entry, b) || (length == 0 && step->null_if_empty))
+        side->passed[b] = NULL;
+        if (!entry_has(step->entry, b) || (length == 0 && step->null_if_empty))
             continue;
         if (b == DISK) {
-            side->lent[b] = lend_disk(pair, side, step);
+            side->passed[b] = place_disk(pair, side, step);
         } else {
-            side->lent[b] = arena_lend(&side->arena[b], length, pair->placement, pair->shift);
-            memcpy(side->lent[b], before[b], length);
+            side->passed[b] = arena_place(&side->arena[b], length, pair->placement, pair->shift);
+            memcpy(side->passed[b], before[b], length);
         }
     }
 }
@@ -182,7 +182,7 @@ static void lend_all(const struct pair *pair, struct side *side, const struct st
 static uint64_t call(const struct side *side, const struct step *step)
 {
     const struct implementation *code = side->code;
-    uint8_t *const *at = side->lent;
+    uint8_t *const *at = side->passed;
     const size_t *length = step->length;
 
     switch (step->entry) {
@@ -246,15 +246,15 @@ static bool same(enum buffer buffer, const char *name_a, const uint8_t *a,
     return false;
 }
 
-/* A buffer that may not change must hold what was lent. */
+/* A buffer that may not change must hold what was passed. */
 static bool buffer_agrees(const struct pair *pair, const struct step *step, enum buffer b, uint32_t answer)
 {
     const struct side *one = &pair->side[0];
     const struct side *two = &pair->side[1];
-    bool agrees = same(b, one->code->name, one->lent[b], two->code->name, two->lent[b], step->length[b]);
+    bool agrees = same(b, one->code->name, one->passed[b], two->code->name, two->passed[b], step->length[b]);
 
     if (answer != SCT_DONE || !entry_may_change(step->entry, b))
-        agrees &= same(b, one->code->name, one->lent[b], "lent", before[b], step->length[b]);
+        agrees &= same(b, one->code->name, one->passed[b], "before", before[b], step->length[b]);
     return agrees;
 }
 
@@ -262,8 +262,8 @@ static bool other_disk_agrees(const struct pair *pair, const struct step *step)
 {
     size_t seen = other_disk_seen(step->length[DISK]);
 
-    return same(DISK, pair->side[0].code->name, pair->side[0].lent[DISK],
-                pair->side[1].code->name, pair->side[1].lent[DISK], seen);
+    return same(DISK, pair->side[0].code->name, pair->side[0].passed[DISK],
+                pair->side[1].code->name, pair->side[1].passed[DISK], seen);
 }
 
 /*
@@ -274,11 +274,11 @@ static bool disks_agree(struct pair *pair, size_t open)
 {
     const struct side *one = &pair->side[0];
     const struct side *two = &pair->side[1];
-    const uint8_t *disk = one->arena[DISK].loan;
+    const uint8_t *disk = one->arena[DISK].buffer;
     size_t all = (size_t)pair->sectors * SCT_SECTOR_BYTES;
     bool agree;
 
-    agree = same(DISK, one->code->name, disk, two->code->name, two->arena[DISK].loan, all);
+    agree = same(DISK, one->code->name, disk, two->code->name, two->arena[DISK].buffer, all);
     agree &= same(DISK, "written where it may not be", disk + open, "before", pair->disk + open, all - open);
     if (open != 0 && memcmp(pair->disk, disk, open) != 0)
         memcpy(pair->disk, disk, open);
@@ -324,7 +324,7 @@ static bool guards_agree(const struct side *side, const struct step *step, bool 
     for (enum buffer b = 0; b < BUFFERS; b++) {
         const struct arena *arena = b == DISK && other_disk ? &side->other_disk : &side->arena[b];
 
-        if (side->lent[b] == NULL || !entry_is_lent(step->entry, b) || arena_guards_hold(arena))
+        if (side->passed[b] == NULL || !entry_has(step->entry, b) || arena_guards_hold(arena))
             continue;
         printf("  %s wrote beside its %s\n", side->code->name, buffer_name[b]);
         hold = false;
@@ -349,9 +349,9 @@ static bool everything_agrees(struct pair *pair, const struct step *step, const 
     bool agrees = results_agree(pair, result);
 
     for (enum buffer b = 0; b < DISK; b++)
-        if (entry_is_lent(step->entry, b))
+        if (entry_has(step->entry, b))
             agrees &= buffer_agrees(pair, step, b, answer);
-    if (entry_is_lent(step->entry, DISK))
+    if (entry_has(step->entry, DISK))
         agrees &= other ? other_disk_agrees(pair, step) : disk_agrees(pair, step, answer);
     for (int s = 0; s < 2; s++)
         agrees &= guards_agree(&pair->side[s], step, other);
@@ -365,11 +365,11 @@ static void keep(struct pair *pair, const struct step *step)
     const struct side *side = &pair->side[0];
 
     if (entry_may_change(step->entry, RECORD))
-        memcpy(pair->record, side->lent[RECORD], SCT_RECORD_BYTES);
+        memcpy(pair->record, side->passed[RECORD], SCT_RECORD_BYTES);
     if (entry_may_change(step->entry, PRIVATE_AREA))
-        memcpy(pair->private_area, side->lent[PRIVATE_AREA], SCT_PRIVATE_BYTES);
+        memcpy(pair->private_area, side->passed[PRIVATE_AREA], SCT_PRIVATE_BYTES);
     if (step->entry == SAVE) {
-        memcpy(pair->image, side->lent[IMAGE], step->length[IMAGE]);
+        memcpy(pair->image, side->passed[IMAGE], step->length[IMAGE]);
         pair->used = step->used + SCT_ENTRY_BYTES;
     }
 }
@@ -378,8 +378,8 @@ static void keep(struct pair *pair, const struct step *step)
 static void scramble_mailboxes(const struct pair *pair, const struct step *step)
 {
     for (int s = 0; s < 2; s++)
-        if (pair->side[s].lent[MAILBOX] != NULL)
-            memset(pair->side[s].lent[MAILBOX], FILLER, step->length[MAILBOX]);
+        if (pair->side[s].passed[MAILBOX] != NULL)
+            memset(pair->side[s].passed[MAILBOX], FILLER, step->length[MAILBOX]);
 }
 
 static void note_outcome(const struct pair *pair, const struct step *step, uint64_t result,
@@ -409,7 +409,7 @@ bool pair_step(struct pair *pair, const struct step *step, struct outcome *outco
         outcome->kind = kind_of_request(pair->private_area + (size_t)SCT_MAILBOX_BYTES * step->port);
     prepare_all(pair, step);
     for (int s = 0; s < 2; s++) {
-        lend_all(pair, &pair->side[s], step);
+        place_all(pair, &pair->side[s], step);
         result[s] = call(&pair->side[s], step);
     }
     if (!everything_agrees(pair, step, result))

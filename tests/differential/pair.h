@@ -2,7 +2,7 @@
  * pair.h - two implementations side by side.
  *
  * Each side has buffers of its own. The bytes that both left behind after the
- * last step are kept once, here; a step lends each side a copy of them, calls,
+ * last step are kept once, here; a step passes each side a copy of them, calls,
  * and compares everything. The disk is too large for that: each side keeps its
  * own, and a third copy tells what may not have changed. Of a large disk the
  * comparison is put off, for some steps at most, and never beyond a step that
@@ -12,7 +12,7 @@
 #define PAIR_H
 
 #include "implementation.h"
-#include "lend.h"
+#include "arena.h"
 #include "random.h"
 #include "step.h"
 
@@ -21,8 +21,8 @@ enum { IMAGE_ROOM = 70000 };    /* more than any readable image needs */
 struct side {
     const struct implementation *code;
     struct arena arena[BUFFERS];
-    struct arena other_disk;    /* lent where the disk's length is wrong */
-    uint8_t     *lent[BUFFERS];
+    struct arena other_disk;    /* passed where the disk's length is wrong */
+    uint8_t     *passed[BUFFERS];
 };
 
 struct pair {

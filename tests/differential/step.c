@@ -16,8 +16,8 @@ const char *const kind_name[REQUEST_KINDS] = {
     "key: other", "E1h read", "E1h write", "24h read", "34h write", "other"
 };
 
-/* One letter for each buffer: '.' not lent, 'c' lent, 'm' may change. */
-static const char lent[ENTRIES][BUFFERS + 1] = {
+/* One letter for each buffer: '.' not a parameter, 'c' only read, 'm' may change. */
+static const char buffers_of[ENTRIES][BUFFERS + 1] = {
     [POWER_ON]    = "mm.cc",
     [TAKE]        = "mmc..",
     [SERVE]       = "mm..m",
@@ -30,14 +30,14 @@ static const char lent[ENTRIES][BUFFERS + 1] = {
     [SAVE]        = "c..m.",
 };
 
-bool entry_is_lent(enum entry entry, enum buffer buffer)
+bool entry_has(enum entry entry, enum buffer buffer)
 {
-    return lent[entry][buffer] != '.';
+    return buffers_of[entry][buffer] != '.';
 }
 
 bool entry_may_change(enum entry entry, enum buffer buffer)
 {
-    return lent[entry][buffer] == 'm';
+    return buffers_of[entry][buffer] == 'm';
 }
 
 /* ---- Requests ------------------------------------------------------------ */
@@ -118,7 +118,7 @@ static size_t right_length(enum buffer buffer, uint64_t sectors)
 static void print_lengths(FILE *out, const struct step *step, uint64_t sectors)
 {
     for (enum buffer b = 0; b < BUFFERS; b++) {
-        if (!entry_is_lent(step->entry, b))
+        if (!entry_has(step->entry, b))
             continue;
         if (b != IMAGE && step->length[b] == right_length(b, sectors))
             continue;

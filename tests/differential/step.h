@@ -31,8 +31,8 @@ struct step {
     uint64_t   used;                    /* save, power-on */
     bool       used_now;                /* use the length of that moment instead */
     uint8_t    reading;                 /* sample */
-    size_t     length[BUFFERS];         /* lent lengths */
-    bool       null_if_empty;           /* lend NULL where the length is 0 */
+    size_t     length[BUFFERS];         /* as passed */
+    bool       null_if_empty;           /* pass NULL where the length is 0 */
     uint8_t    mailbox[SCT_MAILBOX_BYTES];  /* what it holds at take or give */
     size_t     offset;                  /* edits */
     uint8_t    value;
@@ -44,8 +44,8 @@ struct step {
 extern const char *const entry_name[STEP_KINDS];
 extern const char *const buffer_name[BUFFERS];
 
-/* True if the entry is lent this buffer. */
-bool entry_is_lent(enum entry entry, enum buffer buffer);
+/* True if the entry has this buffer as a parameter. */
+bool entry_has(enum entry entry, enum buffer buffer);
 
 /* True if the entry may change this buffer when it answers 0. */
 bool entry_may_change(enum entry entry, enum buffer buffer);

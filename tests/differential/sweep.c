@@ -48,7 +48,7 @@ static void go_to_start(struct pair *pair, const struct start *start)
     memcpy(pair->private_area, start->private_area, sizeof start->private_area);
     memcpy(pair->disk, start->disk, sizeof start->disk);
     for (int i = 0; i < 2; i++)
-        memcpy(pair->side[i].arena[DISK].loan, start->disk, sizeof start->disk);
+        memcpy(pair->side[i].arena[DISK].buffer, start->disk, sizeof start->disk);
     memcpy(pair->image, start->image, sizeof start->image);
     pair->used = start->used;
 }
@@ -415,14 +415,14 @@ static size_t choose_length(const struct step *step, enum buffer b, unsigned cho
     }
 }
 
-/* The mixture with this number: one choice for each buffer that is lent. */
+/* The mixture with this number: one choice for each buffer of the entry. */
 static struct step mixture(const struct pair *pair, enum entry entry, unsigned number)
 {
     struct step step = step_of(pair, entry);
 
     step.length[IMAGE] = 2 * SCT_ENTRY_BYTES;
     for (enum buffer b = 0; b < BUFFERS; b++) {
-        if (!entry_is_lent(entry, b))
+        if (!entry_has(entry, b))
             continue;
         step.length[b] = choose_length(&step, b, number % LENGTH_CHOICES);
         step.null_if_empty |= number % LENGTH_CHOICES == 1;
@@ -436,7 +436,7 @@ static unsigned mixtures(enum entry entry)
     unsigned count = 1;
 
     for (enum buffer b = 0; b < BUFFERS; b++)
-        if (entry_is_lent(entry, b))
+        if (entry_has(entry, b))
             count *= LENGTH_CHOICES;
     return count;
 }

@@ -101,7 +101,7 @@ static void key_example(const char *what, uint16_t action, uint16_t function, ui
     expect(what, stored_code(), wanted);
 }
 
-static void marked_keys(void)
+static void starred_keys(void)
 {
     fill_example(63, 0, 0);
     fill_example(64, 0, 0x0002);
@@ -116,7 +116,7 @@ static void marked_keys(void)
     key_example("feature 3, state 0, option 2", 4, 1, 3, 0, 2, 0x000E);
 }
 
-static void marked_temperature(void)
+static void starred_temperature(void)
 {
     power_on(0);
     sample(0xF6);
@@ -128,7 +128,7 @@ static void marked_temperature(void)
     expect("maximum after a missing sample", status()[204], 0x05);
 }
 
-static void marked_work(void)
+static void starred_work(void)
 {
     power_on(0);
     build_fill(mail, SMART, 1, 60, 3, 0x01020304);
@@ -161,7 +161,7 @@ static void ask_sector_fill(void)
     power_on(0);
     build_fill(mail, SMART, 2, 5, 2, 0);
     expect_key("sector fill", 0);
-    expect("LBA Mid, one sector is owed", mail[R_MID], 1);
+    expect("LBA Mid, one sector is to follow", mail[R_MID], 1);
 }
 
 static void another_port(void)
@@ -245,9 +245,9 @@ static void run(const struct implementation *implementation)
 {
     code = implementation;
     memset(disk, 0, sizeof disk);
-    marked_keys();
-    marked_temperature();
-    marked_work();
+    starred_keys();
+    starred_temperature();
+    starred_work();
     memset(disk, 0, sizeof disk);
     stopped_fill();
     another_port();

@@ -1496,7 +1496,7 @@ uint32_t REF(power_on)(uint8_t *record, size_t record_length,
     const uint8_t *newest;
     uint32_t answer;
 
-    (void)disk;     /* lent for its length */
+    (void)disk;     /* passed for its length */
     if (record_length != SCT_RECORD_BYTES || private_length != SCT_PRIVATE_BYTES ||
         !disk_length_possible(disk_length) || used > image_length)
         return SCT_LENGTH;

@@ -1,5 +1,5 @@
 #define _DEFAULT_SOURCE     /* MAP_ANONYMOUS */
-#include "lend.h"
+#include "arena.h"
 
 #include <stdio.h>
 #include <stdlib.h>
@@ -23,46 +23,46 @@ void arena_make(struct arena *arena, size_t largest)
     }
     arena->base = map + PAGE;
     arena->capacity = capacity;
-    arena->loan = arena->base;
+    arena->buffer = arena->base;
     arena->length = 0;
 }
 
 static size_t before(const struct arena *arena)
 {
-    size_t room = (size_t)(arena->loan - arena->base);
+    size_t room = (size_t)(arena->buffer - arena->base);
 
     return room < GUARD_BYTES ? room : GUARD_BYTES;
 }
 
 static size_t behind(const struct arena *arena)
 {
-    size_t room = arena->capacity - (size_t)(arena->loan - arena->base) - arena->length;
+    size_t room = arena->capacity - (size_t)(arena->buffer - arena->base) - arena->length;
 
     return room < GUARD_BYTES ? room : GUARD_BYTES;
 }
 
-uint8_t *arena_lend(struct arena *arena, size_t length, enum placement placement, unsigned shift)
+uint8_t *arena_place(struct arena *arena, size_t length, enum placement placement, unsigned shift)
 {
     size_t offset = placement == AT_START ? 0
                   : placement == AT_END ? arena->capacity - length
                   : GUARD_BYTES + shift % SHIFTS;
 
-    arena->loan = arena->base + offset;
+    arena->buffer = arena->base + offset;
     arena->length = length;
     for (size_t i = 0; i < before(arena); i++)
-        arena->loan[-1 - (ptrdiff_t)i] = GUARD;
+        arena->buffer[-1 - (ptrdiff_t)i] = GUARD;
     for (size_t i = 0; i < behind(arena); i++)
-        arena->loan[length + i] = GUARD;
-    return arena->loan;
+        arena->buffer[length + i] = GUARD;
+    return arena->buffer;
 }
 
 bool arena_guards_hold(const struct arena *arena)
 {
     for (size_t i = 0; i < before(arena); i++)
-        if (arena->loan[-1 - (ptrdiff_t)i] != GUARD)
+        if (arena->buffer[-1 - (ptrdiff_t)i] != GUARD)
             return false;
     for (size_t i = 0; i < behind(arena); i++)
-        if (arena->loan[arena->length + i] != GUARD)
+        if (arena->buffer[arena->length + i] != GUARD)
             return false;
     return true;
 }
