@@ -27,8 +27,8 @@
  * the answer is not 0, no byte of any buffer has changed.
  *
  * The code is for x86-64 with the System V calling convention. It uses SSE
- * registers, which a handler that interrupts other code saves, and neither x87
- * nor AVX.
+ * registers, which a handler that interrupts other code saves, and no x87, MMX
+ * or AVX. A call needs less than 1 KiB of stack (measured, not proved).
  */
 #ifndef SCT_DISK_H
 #define SCT_DISK_H
@@ -63,7 +63,7 @@ enum sct_answer {
     SCT_STAGE      = 3,  /* the slot is not in the stage that the step needs */
     SCT_RECORD     = 4,  /* the record is unsound; so is one of another size */
     SCT_VALUE      = 5,  /* the V asked for is 0 or above N */
-    SCT_IMAGE      = 6,  /* the image is not readable */
+    SCT_IMAGE      = 6,  /* the image, or its used length, is not readable */
     SCT_OTHER_DISK = 7,  /* the newest entry is of a disk of another N */
     SCT_FULL       = 8   /* the image has 117 entries, or no 560 bytes more */
 };
@@ -153,7 +153,7 @@ uint32_t sct_sample(uint8_t *record, size_t record_length, uint8_t reading);
 
 /*
  * Adds one entry to the image, behind its used length. After answer 0 the used
- * length is used + 560; the caller keeps that number.
+ * length is used + 560; it is not returned, and the caller keeps it.
  * Refusals: 4; 2 used exceeds the image; 6; 7; 8.
  * Changes: the 560 bytes of the image from used on.
  */

@@ -101,7 +101,7 @@ static void key_example(const char *what, uint16_t action, uint16_t function, ui
     expect(what, stored_code(), wanted);
 }
 
-static void starred_keys(void)
+static void key_examples(void)
 {
     fill_example(63, 0, 0);
     fill_example(64, 0, 0x0002);
@@ -116,7 +116,7 @@ static void starred_keys(void)
     key_example("feature 3, state 0, option 2", 4, 1, 3, 0, 2, 0x000E);
 }
 
-static void starred_temperature(void)
+static void temperature_example(void)
 {
     power_on(0);
     sample(0xF6);
@@ -128,7 +128,7 @@ static void starred_temperature(void)
     expect("maximum after a missing sample", status()[204], 0x05);
 }
 
-static void starred_work(void)
+static void work_example(void)
 {
     power_on(0);
     build_fill(mail, SMART, 1, 60, 3, 0x01020304);
@@ -245,9 +245,9 @@ static void run(const struct implementation *implementation)
 {
     code = implementation;
     memset(disk, 0, sizeof disk);
-    starred_keys();
-    starred_temperature();
-    starred_work();
+    key_examples();
+    temperature_example();
+    work_example();
     memset(disk, 0, sizeof disk);
     stopped_fill();
     another_port();
