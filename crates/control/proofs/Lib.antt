@@ -2,6 +2,4 @@
 pub mod ChangeLaws
 pub mod InterruptLaw
 pub mod SlotLaws
-pub mod ThermalLaws
-pub mod SampleLaws
 pub mod SettingsLaws

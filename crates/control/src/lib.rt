@@ -1,10 +1,7 @@
-// How the device changes, by value: a fill stopped, started and moved on; lock and visible size; timers and features; temperatures. A sample is
-// taken on the record's bytes.
+// How the device changes, by value: a fill stopped, started and moved on; lock and visible size; timers and features.
 mod last;
 mod owner;
-mod sampling;
 mod settings;
-mod thermal;
 
 pub use last::interrupt;
 pub use last::sector_written;
@@ -15,7 +12,6 @@ pub use last::with_key;
 pub use last::with_pending;
 pub use owner::set_lock;
 pub use owner::set_visible;
-pub use sampling::sample;
 pub use settings::feature;
 pub use settings::set_feature;
 pub use settings::set_timer;

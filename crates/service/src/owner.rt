@@ -72,6 +72,6 @@ pub extern "C" fn sct_sample(device: &mut [u8], reading: u8) -> u32
     if !soundness::sound(device) {
         return 4;
     }
-    control::sample(device, reading);
+    sampling::sample(device, reading);
     0
 }

@@ -1,8 +1,8 @@
--- `control::sampling::sampled_device` meets its contract.
-use Rattle.control.proofs.SampleLaws.{sampled-says}
+-- `sampling::logging::sampled_device` meets its contract.
+use Rattle.sampling.proofs.SampleLaws.{sampled-says}
 use borrow.Author.Needs.{needs}
-use Rattle.control.proofs.sampling.sampled_device.Statement.{statement}
-use Rattle.control.proofs.sampling.sampled_device.Tie as tie
+use Rattle.sampling.proofs.logging.sampled_device.Statement.{statement}
+use Rattle.sampling.proofs.logging.sampled_device.Tie as tie
 
 sampled-thermal-requires : tie.Need-sampled-thermal-requires
 sampled-thermal-requires c κs = search needs

@@ -1,11 +1,11 @@
--- `control::sampling::sample` meets its contract.
+-- `sampling::logging::sample` meets its contract.
 use Rattle.store.proofs.SoundLaws.{sound-parts}
 use Rattle.writing.proofs.FramedLaws.{sound-framed}
-use Rattle.control.proofs.SampleLaws.{sample-ready, log-framed, sample-written}
+use Rattle.sampling.proofs.SampleLaws.{sample-ready, log-framed, sample-written}
 use native.Mathlib.Omega.{arith}
 use borrow.Author.Needs.{needs}
-use Rattle.control.proofs.sampling.sample.Statement.{statement}
-use Rattle.control.proofs.sampling.sample.Tie as tie
+use Rattle.sampling.proofs.logging.sample.Statement.{statement}
+use Rattle.sampling.proofs.logging.sample.Tie as tie
 
 decode-requires : tie.Need-decode-requires
 decode-requires c κs = sound-parts (c .before .before .args .r .now) (c .before .before .pre) .size

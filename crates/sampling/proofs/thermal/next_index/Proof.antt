@@ -1,8 +1,8 @@
--- `control::thermal::next_index` meets its contract.
-use Rattle.control.proofs.ThermalLaws.{index-last, index-more}
+-- `sampling::thermal::next_index` meets its contract.
+use Rattle.sampling.proofs.ThermalLaws.{index-last, index-more}
 use borrow.Author.Needs.{needs}
-use Rattle.control.proofs.thermal.next_index.Statement.{statement}
-use Rattle.control.proofs.thermal.next_index.Tie as tie
+use Rattle.sampling.proofs.thermal.next_index.Statement.{statement}
+use Rattle.sampling.proofs.thermal.next_index.Tie as tie
 
 add-result : tie.Need-add-result
 add-result c = search needs

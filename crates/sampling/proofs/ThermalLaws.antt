@@ -12,7 +12,7 @@ use Rattle.wire.specs.Choice.{if_then_else_}
 use Rattle.wire.proofs.ChoiceLaws.{tests-same}
 use Rattle.model.specs.Temperature.{signed, newMaximum, nextIndex, sampled}
 use Rattle.record.specs.declared.device as code
-use Rattle.control.specs.Change.{shifted, Sampled}
+use Rattle.sampling.specs.Sampled.{shifted, Sampled}
 
 -- the order of the moved bytes is the order of the signed values
 pub shifted-order : (a b : ℕ) → a < 256 → b < 256 → leZ (signed a) (signed b) ≡ leb (shifted a) (shifted b)

@@ -13,7 +13,7 @@ ghost use Rattle.store.specs.Areas.{recordSize};
 ghost use Rattle.store.specs.Sound.{sound};
 ghost use Rattle.store.specs.Entries.{ownerDone};
 ghost use Rattle.model.specs.Owner.{sample};
-ghost use Rattle.control.specs.Change.{SampledDevice, loggedRecord};
+ghost use Rattle.sampling.specs.Sampled.{SampledDevice, loggedRecord};
 
 // The device after a sample; the history is the record's.
 fn sampled_device(d: Device, reading: u8) -> Device

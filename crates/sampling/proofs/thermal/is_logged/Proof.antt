@@ -1,8 +1,8 @@
--- `control::thermal::is_logged` meets its contract.
-use Rattle.control.proofs.ThermalLaws.{logged-test}
+-- `sampling::thermal::is_logged` meets its contract.
+use Rattle.sampling.proofs.ThermalLaws.{logged-test}
 use borrow.Author.Needs.{needs}
-use Rattle.control.proofs.thermal.is_logged.Statement.{statement}
-use Rattle.control.proofs.thermal.is_logged.Tie as tie
+use Rattle.sampling.proofs.thermal.is_logged.Statement.{statement}
+use Rattle.sampling.proofs.thermal.is_logged.Tie as tie
 
 add-result : tie.Need-add-result
 add-result c = search needs

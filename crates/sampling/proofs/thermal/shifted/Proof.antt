@@ -1,8 +1,8 @@
--- `control::thermal::shifted` meets its contract.
+-- `sampling::thermal::shifted` meets its contract.
 use borrow.Author.Tests.{lt-ltb, le-ltb}
 use borrow.Author.Needs.{needs}
-use Rattle.control.proofs.thermal.shifted.Statement.{statement}
-use Rattle.control.proofs.thermal.shifted.Tie as tie
+use Rattle.sampling.proofs.thermal.shifted.Statement.{statement}
+use Rattle.sampling.proofs.thermal.shifted.Tie as tie
 
 add-result : tie.Need-add-result
 add-result c = search needs

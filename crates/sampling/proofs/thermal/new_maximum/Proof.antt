@@ -1,10 +1,10 @@
--- `control::thermal::new_maximum` meets its contract.
+-- `sampling::thermal::new_maximum` meets its contract.
 use borrow.Author.Tests.{eq-eqb, ne-eqb}
 use Rattle.model.specs.Temperature.{newMaximum}
-use Rattle.control.proofs.ThermalLaws.{maximum-old, maximum-sample}
+use Rattle.sampling.proofs.ThermalLaws.{maximum-old, maximum-sample}
 use borrow.Author.Needs.{needs}
-use Rattle.control.proofs.thermal.new_maximum.Statement.{statement}
-use Rattle.control.proofs.thermal.new_maximum.Tie as tie
+use Rattle.sampling.proofs.thermal.new_maximum.Statement.{statement}
+use Rattle.sampling.proofs.thermal.new_maximum.Tie as tie
 
 returns : tie.Need-returns
 unfolding newMaximum

@@ -24,7 +24,7 @@ use Rattle.record.specs.Meaning.{asThermal, asDevice, asContents, stagesOf, his
 use Rattle.writing.specs.Framed.{Framed}
 use Rattle.writing.proofs.FramedLaws.{logged-framed}
 use Rattle.writing.proofs.HistoryLaws.{history-logged}
-use Rattle.control.specs.Change.{historyAfter, Sampled, SampledDevice, loggedRecord}
+use Rattle.sampling.specs.Sampled.{historyAfter, Sampled, SampledDevice, loggedRecord}
 
 abbrev withThermalOf : code.Device.Device → code.Thermal.Thermal → code.Device.Device
 withThermalOf d t =

@@ -1,11 +1,11 @@
--- `control::thermal::sampled_thermal` meets its contract.
+-- `sampling::thermal::sampled_thermal` meets its contract.
 use mathlib.Core.Path.{sym, _∙_}
 use borrow.Author.Tests.{not-true, not-false}
 use native.Mathlib.Omega.{arith}
-use Rattle.control.proofs.ThermalLaws.{sampled-logged, sampled-counted}
+use Rattle.sampling.proofs.ThermalLaws.{sampled-logged, sampled-counted}
 use borrow.Author.Needs.{needs}
-use Rattle.control.proofs.thermal.sampled_thermal.Statement.{statement}
-use Rattle.control.proofs.thermal.sampled_thermal.Tie as tie
+use Rattle.sampling.proofs.thermal.sampled_thermal.Statement.{statement}
+use Rattle.sampling.proofs.thermal.sampled_thermal.Tie as tie
 
 new-maximum-requires : tie.Need-new-maximum-requires
 new-maximum-requires c κs = search needs

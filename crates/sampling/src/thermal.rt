@@ -6,7 +6,7 @@ ghost use Prim.Native.Nat.{_<_, suc};
 ghost use lib.Dec.{ltb};
 ghost use Rattle.model.specs.Sizes.{historySize};
 ghost use Rattle.model.specs.Temperature.{newMaximum, nextIndex};
-ghost use Rattle.control.specs.Change.{shifted, Sampled};
+ghost use Rattle.sampling.specs.Sampled.{shifted, Sampled};
 
 // A two's complement byte, moved so that the order of the bytes is the order of the temperatures.
 fn shifted(b: u8) -> u8

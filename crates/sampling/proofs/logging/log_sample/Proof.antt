@@ -1,8 +1,8 @@
--- `control::sampling::log_sample` meets its contract.
-use Rattle.control.proofs.SampleLaws.{next-within, log-later, log-now}
+-- `sampling::logging::log_sample` meets its contract.
+use Rattle.sampling.proofs.SampleLaws.{next-within, log-later, log-now}
 use borrow.Author.Needs.{needs}
-use Rattle.control.proofs.sampling.log_sample.Statement.{statement}
-use Rattle.control.proofs.sampling.log_sample.Tie as tie
+use Rattle.sampling.proofs.logging.log_sample.Statement.{statement}
+use Rattle.sampling.proofs.logging.log_sample.Tie as tie
 
 is-logged-requires : tie.Need-is-logged-requires
 is-logged-requires c κs = search needs

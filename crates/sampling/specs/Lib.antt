@@ -1,0 +1,2 @@
+-- The device after a sample.
+pub mod Sampled
