@@ -44,10 +44,11 @@ pub fn interrupt(d: Device) -> Device
     let fill = c.fill;
     let code = stopped_code(fill, c.code);
     let slots = d.slots;
-    let a = cleared(slots[0]);
-    let b = cleared(slots[1]);
-    let e = cleared(slots[2]);
-    let f = cleared(slots[3]);
+    let s0 = cleared(slots[0]);
+    let s1 = cleared(slots[1]);
+    let s2 = cleared(slots[2]);
+    let s3 = cleared(slots[3]);
+    let idle = Fill::Idle;
     let settings = d.settings;
     let thermal = d.thermal;
     Device {
@@ -59,11 +60,11 @@ pub fn interrupt(d: Device) -> Device
             code,
             action: c.action,
             function: c.function,
-            fill: Fill::Idle,
+            fill: idle,
         },
         settings,
         thermal,
-        slots: [a, b, e, f],
+        slots: [s0, s1, s2, s3],
     }
 }
 

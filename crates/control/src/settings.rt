@@ -53,7 +53,7 @@ pub fn set_timer(d: Device, dir: Direction, n: u16) -> Device
     e
 }
 
-// A feature's state and mark.
+// A feature's state and option.
 pub fn feature(name: FeatureName, s: Settings) -> Feature
     ensures { λ r. ⌜ asFeature r ≡ feature (asFeatureName name) (asSettings s) ⌝ }
 {
