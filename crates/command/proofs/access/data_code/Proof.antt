@@ -1,8 +1,6 @@
 -- `command::data_code` meets its contract.
 use Rattle.command.proofs.TestLaws.{passed, failed}
 use borrow.Author.Tests.{eq-eqb, ne-eqb}
--- `command::data_code` meets its contract.
-use borrow.Author.Tests.{eq-eqb, ne-eqb}
 use borrow.Author.Needs.{needs}
 use Rattle.command.proofs.access.data_code.Statement.{statement}
 use Rattle.command.proofs.access.data_code.Tie as tie

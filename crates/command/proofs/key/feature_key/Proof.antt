@@ -1,8 +1,6 @@
 -- `command::feature_key` meets its contract.
 use Rattle.command.proofs.TestLaws.{passed, failed}
 use borrow.Author.Tests.{eq-eqb, ne-eqb, lt-leb, le-leb}
--- `command::feature_key` meets its contract.
-use borrow.Author.Tests.{eq-eqb, ne-eqb, lt-leb, le-leb}
 use borrow.Author.Needs.{needs}
 use Rattle.command.proofs.key.feature_key.Statement.{statement}
 use Rattle.command.proofs.key.feature_key.Tie as tie

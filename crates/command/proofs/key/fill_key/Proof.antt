@@ -1,8 +1,6 @@
 -- `command::fill_key` meets its contract.
 use Rattle.command.proofs.TestLaws.{passed, failed}
 use borrow.Author.Tests.{eq-eqb, ne-eqb, lt-leb, le-leb}
--- `command::fill_key` meets its contract.
-use borrow.Author.Tests.{eq-eqb, ne-eqb, lt-leb, le-leb}
 use native.Mathlib.Omega.{arith}
 use Prim.Native.Nat.{_+_, _-_}
 use borrow.Author.Needs.{needs}

@@ -1,8 +1,6 @@
 -- `command::read_key` meets its contract.
 use Rattle.command.proofs.TestLaws.{passed, failed}
 use mathlib.Core.Path.{_∙_, sym}
--- `command::read_key` meets its contract.
-use mathlib.Core.Path.{_∙_, sym}
 use native.Mathlib.Omega.{arith}
 use Rattle.wire.specs.Parts.{part}
 use Rattle.command.proofs.SlotLaws.{number-of, number-first}

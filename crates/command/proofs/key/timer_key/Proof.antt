@@ -2,9 +2,6 @@
 use Rattle.command.proofs.TestLaws.{passed, failed}
 use borrow.Author.Tests.{eq-eqb, ne-eqb}
 use mathlib.Core.Path.{_∙_, sym}
--- `command::timer_key` meets its contract.
-use borrow.Author.Tests.{eq-eqb, ne-eqb}
-use mathlib.Core.Path.{_∙_, sym}
 use Rattle.model.specs.Key.{setTimer, timerName}
 use Rattle.command.proofs.KeyReadLaws.{timer-refused}
 use borrow.Author.Needs.{needs}

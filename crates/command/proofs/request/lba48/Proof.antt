@@ -1,9 +1,7 @@
 -- `command::lba48` meets its contract.
 use Rattle.command.proofs.SlotLaws.{byte-of, lba-of}
--- `command::lba48` meets its contract.
 use native.Mathlib.Omega.{arith}
 use Rattle.wire.specs.Parts.{part}
-use Rattle.command.proofs.SlotLaws.{byte-of}
 use borrow.Author.Needs.{needs}
 use Rattle.command.proofs.request.lba48.Statement.{statement}
 use Rattle.command.proofs.request.lba48.Tie as tie
