@@ -4,15 +4,15 @@ use wire::u16_at;
 use wire::u64_at;
 ghost use mathlib.Core.Path.{_≡_};
 ghost use Prim.Native.Nat.{ℕ, _+_, _≤_};
-ghost use mathlib.Core.List.{List};
+ghost use mathlib.Core.List.{List, [], _∷_};
 ghost use lib.ListN.{length};
-ghost use lib.Dec.{eqb};
+ghost use lib.Dec.{eqb, leb};
 ghost use Rattle.wire.specs.Choice.{if_then_else_, between, firstFailed};
 ghost use Rattle.wire.specs.Parts.{part};
 ghost use Rattle.model.specs.Sizes.{sectorSize};
 ghost use Rattle.model.specs.Device.{Device};
-ghost use Rattle.model.specs.Key.{word, start, count, highestState, timerName, featureName, fillChecks, timerChecks, featureChecks, tableChecks, fillEnd, fillAction, timerAction, featureAction, sendTable, patternSector, verdict, judgeKey};
-ghost use Rattle.command.specs.Meaning.{asDirection, asFeatureName, asVerdict, refusalOf};
+ghost use Rattle.model.specs.Key.{word, start, count, highestState, timerName, featureName, fillChecks, timerChecks, featureChecks, tableChecks, fillEnd, fillPattern, fillSector, fillAction, timerAction, setFeature, returnState, returnOption, featureAction, sendTable, patternSector, verdict, judgeKey};
+ghost use Rattle.command.specs.Meaning.{asDirection, asFeatureName, asAction, asVerdict, refusalOf};
 
 // "1 (write cache) ..; 2 (reordering) ..; 3 (log interval)"
 pub enum FeatureName {
@@ -68,8 +68,25 @@ fn fill_end(first: u64, sectors: u64, visible: u64) -> u64
     first + sectors
 }
 
+// Whether Start + Count is at most the last user LBA. The sum is not formed: it may not fit 64 bits.
+fn sum_within(first: u64, sectors: u64, last: u64) -> bool
+    requires { ⌜ first ≤ last ⌝ }
+    ensures { λ r. ⌜ r ≡ leb (first + sectors) last ⌝ }
+{
+    sectors <= last - first
+}
+
+// "1 pattern, 2 sector"
+fn fill_asked(function: u16, first: u64, end: u64) -> Action
+    ensures { λ r. ⌜ ((sector : List ℕ) → asAction r sector ≡ (if eqb function 1 then fillPattern first end sector else fillSector first end)) ⌝ }
+{
+    if function == 1 {
+        return Action::FillPattern(first, end);
+    }
+    Action::FillSector(first, end)
+}
+
 // Action 2: "1 pattern, 2 sector; else 0001h"; "Start above last user LBA, or Start + Count above last user LBA: 0002h".
-// The sum is not formed before it is known to fit.
 fn fill_key(function: u16, first: u64, sectors: u64, visible: u64) -> KeyRead
     requires { ⌜ 1 ≤ visible ⌝ }
     ensures { λ r. ⌜ ((k : List ℕ) → word k 1 ≡ function → start k ≡ first → count k ≡ sectors → asVerdict r (patternSector k) ≡ verdict (firstFailed (fillChecks visible k)) (fillAction visible k)) ⌝ }
@@ -77,17 +94,16 @@ fn fill_key(function: u16, first: u64, sectors: u64, visible: u64) -> KeyRead
     if !between(1, function, 2) {
         return KeyRead::Refused(0x0001);
     }
-    if first > visible - 1 {
+    let last = visible - 1;
+    if first > last {
         return KeyRead::Refused(0x0002);
     }
-    if sectors > visible - 1 - first {
+    if !sum_within(first, sectors, last) {
         return KeyRead::Refused(0x0002);
     }
     let end = fill_end(first, sectors, visible);
-    if function == 1 {
-        return KeyRead::Accepted(Action::FillPattern(first, end));
-    }
-    KeyRead::Accepted(Action::FillSector(first, end))
+    let action = fill_asked(function, first, end);
+    KeyRead::Accepted(action)
 }
 
 // "word 2 is 1 read or 2 write"
@@ -157,6 +173,26 @@ fn highest_state(name: u16) -> u16
     65535
 }
 
+// "word 4 other than 0 or 1 000Fh"; "Option 1 keeps a state over power"
+fn feature_set(feature: FeatureName, state: u16, option: u16) -> KeyRead
+    ensures { λ r. ⌜ ((sector : List ℕ) → asVerdict r sector ≡ verdict (firstFailed ((leb option 1, 0x000F) ∷ [])) (setFeature (asFeatureName feature) state (eqb option 1))) ⌝ }
+{
+    if option > 1 {
+        return KeyRead::Refused(0x000F);
+    }
+    KeyRead::Accepted(Action::SetFeature(feature, state, option == 1))
+}
+
+// "2 state, 3 options"
+fn feature_returned(function: u16, feature: FeatureName) -> Action
+    ensures { λ r. ⌜ ((sector : List ℕ) → asAction r sector ≡ (if eqb function 2 then returnState (asFeatureName feature) else returnOption (asFeatureName feature))) ⌝ }
+{
+    if function == 2 {
+        return Action::ReturnState(feature);
+    }
+    Action::ReturnOption(feature)
+}
+
 // Action 4: "1 set, 2 state, 3 options; else 000Ch"; "word 2 is 1 to 3, else 000Dh";
 // "set only: word 3 invalid 000Eh, then word 4 other than 0 or 1 000Fh"
 fn feature_key(function: u16, name: u16, state: u16, option: u16) -> KeyRead
@@ -173,15 +209,10 @@ fn feature_key(function: u16, name: u16, state: u16, option: u16) -> KeyRead
         if !between(1, state, highest_state(name)) {
             return KeyRead::Refused(0x000E);
         }
-        if option > 1 {
-            return KeyRead::Refused(0x000F);
-        }
-        return KeyRead::Accepted(Action::SetFeature(feature, state, option == 1));
+        return feature_set(feature, state, option);
     }
-    if function == 2 {
-        return KeyRead::Accepted(Action::ReturnState(feature));
-    }
-    KeyRead::Accepted(Action::ReturnOption(feature))
+    let action = feature_returned(function, feature);
+    KeyRead::Accepted(action)
 }
 
 // Action 5: "1; else 0001h"; "word 2 is 2, else 0011h"

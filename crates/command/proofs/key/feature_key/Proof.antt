@@ -1,6 +1,7 @@
 -- `command::feature_key` meets its contract.
 use Rattle.command.proofs.TestLaws.{passed, failed}
-use borrow.Author.Tests.{eq-eqb, ne-eqb, lt-leb, le-leb}
+use borrow.Author.Tests.{eq-eqb, ne-eqb}
+use Rattle.model.specs.Key.{patternSector}
 use borrow.Author.Needs.{needs}
 use Rattle.command.proofs.key.feature_key.Statement.{statement}
 use Rattle.command.proofs.key.feature_key.Tie as tie
@@ -30,42 +31,48 @@ returns-3 : tie.Need-returns-3
 returns-3 c = λ k f n s o.
     rw (f, passed (c .before .before .before .before .before .before .before .before .between .ensures) (c .before .before .before .before .before .before .before .if1 .left), n, passed (c .before .before .before .before .before .before .between2 .ensures) (c .before .before .before .before .before .if2 .left), eq-eqb _ _ (c .before .before .before .if3 .taken), s, ← c .before .before .highest-state .ensures, failed (c .before .between3 .ensures) (c .if4 .taken))
 
+feature-set-requires : tie.Need-feature-set-requires
+feature-set-requires c κs = search needs
+
 returns-4 : tie.Need-returns-4
 returns-4 c = λ k f n s o.
+    let at-between3 = c .before .before in
+    let at-if3 = at-between3 .before .before in
+    let at-name = at-if3 .before in
+    let at-if2 = at-name .before in
+    let at-if1 = at-if2 .before .before in
     rw (
       f,
-      passed (c .before .before .before .before .before .before .before .before .before .between .ensures) (c .before .before .before .before .before .before .before .before .if1 .left),
+      passed (at-if1 .before .between .ensures) (at-if1 .if1 .left),
       n,
-      passed (c .before .before .before .before .before .before .before .between2 .ensures) (c .before .before .before .before .before .before .if2 .left),
-      eq-eqb _ _ (c .before .before .before .before .if3 .taken),
+      passed (at-if2 .before .between2 .ensures) (at-if2 .if2 .left),
+      eq-eqb _ _ (at-if3 .if3 .taken),
       s,
-      ← c .before .before .before .highest-state .ensures,
-      passed (c .before .before .between3 .ensures) (c .before .if4 .left),
+      ← at-between3 .before .highest-state .ensures,
+      passed (at-between3 .between3 .ensures) (c .before .if4 .left),
       o,
-      lt-leb _ _ (c .if5 .taken),
+      ← at-name .feature-name .ensures,
     )
+    (c .feature-set .ensures (patternSector k))
+
+feature-returned-requires : tie.Need-feature-returned-requires
+feature-returned-requires c κs = search needs
 
 returns-5 : tie.Need-returns-5
 returns-5 c = λ k f n s o.
+    let at-if3 = c .before in
+    let at-name = at-if3 .before in
+    let at-if2 = at-name .before in
+    let at-if1 = at-if2 .before .before in
     rw (
+      c .feature-returned .ensures (patternSector k),
       f,
-      passed (c .before .before .before .before .before .before .before .before .before .between .ensures) (c .before .before .before .before .before .before .before .before .if1 .left),
+      passed (at-if1 .before .between .ensures) (at-if1 .if1 .left),
       n,
-      passed (c .before .before .before .before .before .before .before .between2 .ensures) (c .before .before .before .before .before .before .if2 .left),
-      eq-eqb _ _ (c .before .before .before .before .if3 .taken),
-      s,
-      ← c .before .before .before .highest-state .ensures,
-      passed (c .before .before .between3 .ensures) (c .before .if4 .left),
-      o,
-      le-leb _ _ (c .if5 .left),
-      c .before .before .before .before .before .feature-name .ensures,
+      passed (at-if2 .before .between2 .ensures) (at-if2 .if2 .left),
+      ne-eqb _ _ (at-if3 .if3 .left),
+      at-name .feature-name .ensures,
     )
-
-returns-6 : tie.Need-returns-6
-returns-6 c = λ k f n s o. rw (f, passed (c .before .before .before .before .before .before .between .ensures) (c .before .before .before .before .before .if1 .left), n, passed (c .before .before .before .before .between2 .ensures) (c .before .before .before .if2 .left), ne-eqb _ _ (c .before .if3 .left), eq-eqb _ _ (c .if6 .taken), c .before .before .feature-name .ensures)
-
-returns-7 : tie.Need-returns-7
-returns-7 c = λ k f n s o. rw (f, passed (c .before .before .before .before .before .before .between .ensures) (c .before .before .before .before .before .if1 .left), n, passed (c .before .before .before .before .between2 .ensures) (c .before .before .before .if2 .left), ne-eqb _ _ (c .before .if3 .left), ne-eqb _ _ (c .if6 .left), c .before .before .feature-name .ensures)
 
 pub feature-key-spec : {M : Type 1} → statement M
 feature-key-spec =
@@ -79,7 +86,7 @@ feature-key-spec =
     highest-state-requires
     between-requires-3
     returns-3
+    feature-set-requires
     returns-4
-    returns-5
-    returns-6
-    returns-7)
+    feature-returned-requires
+    returns-5)

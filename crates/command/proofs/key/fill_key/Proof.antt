@@ -1,8 +1,9 @@
 -- `command::fill_key` meets its contract.
 use Rattle.command.proofs.TestLaws.{passed, failed}
-use borrow.Author.Tests.{eq-eqb, ne-eqb, lt-leb, le-leb}
-use native.Mathlib.Omega.{arith}
+use borrow.Author.Tests.{lt-leb, le-leb, leb-true}
+use Rattle.model.specs.Key.{patternSector}
 use Prim.Native.Nat.{_+_, _-_}
+use native.Mathlib.Omega.{arith}
 use borrow.Author.Needs.{needs}
 use Rattle.command.proofs.key.fill_key.Statement.{statement}
 use Rattle.command.proofs.key.fill_key.Tie as tie
@@ -13,52 +14,44 @@ between-requires c κs = search needs
 returns : tie.Need-returns
 returns c = λ k f s n. rw (f, failed (c .before .between .ensures) (c .if1 .taken))
 
-sub-if2 : tie.Need-sub-if2
-sub-if2 c = search needs
+sub-last : tie.Need-sub-last
+sub-last c = search needs
 
 returns-2 : tie.Need-returns-2
 returns-2 c = λ k f s n. rw (f, passed (c .before .before .between .ensures) (c .before .if1 .left), s, lt-leb _ _ (c .if2 .taken))
 
-sub-if3 : tie.Need-sub-if3
-sub-if3 c = search needs
-
-sub-if3-2 : tie.Need-sub-if3-2
-sub-if3-2 c = search needs
+sum-within-requires : tie.Need-sum-within-requires
+sum-within-requires c κs = search needs
 
 returns-3 : tie.Need-returns-3
 returns-3 c = λ k f s n.
-    let a = c .before .before .before .before .args in
-    rw (f, passed (c .before .before .before .between .ensures) (c .before .before .if1 .left), s, n, le-leb _ _ (c .before .if2 .left), lt-leb (a .first + a .sectors) (a .visible - 1) (omega arith))
+    let at-if1 = c .before .before .before in
+    rw (f, passed (at-if1 .before .between .ensures) (at-if1 .if1 .left), s, n, le-leb _ _ (c .before .before .if2 .left), failed (c .before .sum-within .ensures) (c .if3 .taken))
 
 fill-end-requires : tie.Need-fill-end-requires
-fill-end-requires c κs = search needs
+fill-end-requires c κs =
+    let a = c .before .before .before .before .before .args in
+    let h = leb-true (a .first + a .sectors) (a .visible - 1) (passed (c .before .sum-within .ensures) (c .if3 .left)) in
+    omega (arith, h)
+
+fill-asked-requires : tie.Need-fill-asked-requires
+fill-asked-requires c κs = search needs
 
 returns-4 : tie.Need-returns-4
 returns-4 c = λ k f s n.
-    let a = c .before .before .before .before .before .before .args in
+    let at-fill-end = c .before in
+    let at-if3 = at-fill-end .before in
+    let at-if2 = at-if3 .before .before in
+    let at-if1 = at-if2 .before in
     rw (
-      c .before .fill-end .ensures k s n,
+      c .fill-asked .ensures (patternSector k),
+      at-fill-end .fill-end .ensures k s n,
       f,
-      passed (c .before .before .before .before .before .between .ensures) (c .before .before .before .before .if1 .left),
+      passed (at-if1 .before .between .ensures) (at-if1 .if1 .left),
       s,
       n,
-      le-leb _ _ (c .before .before .before .if2 .left),
-      le-leb (a .first + a .sectors) (a .visible - 1) (omega arith),
-      eq-eqb _ _ (c .if4 .taken),
-    )
-
-returns-5 : tie.Need-returns-5
-returns-5 c = λ k f s n.
-    let a = c .before .before .before .before .before .before .args in
-    rw (
-      c .before .fill-end .ensures k s n,
-      f,
-      passed (c .before .before .before .before .before .between .ensures) (c .before .before .before .before .if1 .left),
-      s,
-      n,
-      le-leb _ _ (c .before .before .before .if2 .left),
-      le-leb (a .first + a .sectors) (a .visible - 1) (omega arith),
-      ne-eqb _ _ (c .if4 .left),
+      le-leb _ _ (at-if2 .if2 .left),
+      passed (at-if3 .before .sum-within .ensures) (at-if3 .if3 .left),
     )
 
 pub fill-key-spec : {M : Type 1} → statement M
@@ -67,11 +60,10 @@ fill-key-spec =
     (tie.spec
     between-requires
     returns
-    sub-if2
+    sub-last
     returns-2
-    sub-if3
-    sub-if3-2
+    sum-within-requires
     returns-3
     fill-end-requires
-    returns-4
-    returns-5)
+    fill-asked-requires
+    returns-4)
