@@ -10,7 +10,7 @@ pub enum Arrival {
     End,
 }
 
-// What it is that a read brought `count` bytes of a record of `size` bytes.
+// What a read of `count` bytes of a `size`-byte record is.
 pub fn arrived(count: usize, size: usize) -> Arrival
     ensures { λ r. ⌜ r ≡ arrivalOf size count ⌝ }
 {

@@ -9,4 +9,3 @@ pub use line::put_byte;
 pub use line::put_decimal;
 pub use line::put_hex2;
 pub use line::put_hex4;
-pub use line::put_text;
