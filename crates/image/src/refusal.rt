@@ -35,7 +35,7 @@ pub fn read_refusal(native: u64, image: &[u8], used: usize) -> u32
     0
 }
 
-// "on a save only: image has 117 entries, or its buffer lacks 560 more bytes"
+// Whether a save has room: fewer than 117 entries, and 560 more bytes of the buffer.
 fn has_room(image: &[u8], used: usize) -> bool
     requires { ⌜ used ≤ length (now image) ⌝ }
     ensures { λ r. ⌜ r ≡ hasRoom (now (image .entry)) used ⌝ }

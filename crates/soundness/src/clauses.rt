@@ -59,7 +59,7 @@ fn limit_of(fill: Fill) -> u8
     }
 }
 
-// "an owed fill has first < end ≤ V"; "a fill and an owed transfer never coexist", and at most one is owed: what the four ports have
+// "an owed fill has first < end ≤ V"; "a fill and an owed transfer never coexist", and at most one is pending: what the four ports have
 // pending, beside a fill that leaves room for `limit`.
 fn pending_sound(r: &[u8], visible: u64, limit: u8) -> bool
     requires { ⌜ length (now r) ≡ recordSize ⌝ }
@@ -104,7 +104,7 @@ fn settings_sound(s: Settings) -> bool
         & ((1 <= interval) & (interval <= 65535))
 }
 
-// "1 ≤ V ≤ N ≤ 65,536"; "minutes counted are below it, the history index is at most 477". The history is not asked.
+// "1 ≤ V ≤ N ≤ 65,536"; "minutes counted are below it, the history index is at most 477". The history is not judged.
 pub fn device_sound(r: &[u8]) -> bool
     requires { ⌜ length (now r) ≡ recordSize ⌝ }
     ensures { λ res. ⌜ res ≡ deviceSound (decode (now (r .entry)) .device) ⌝ }
