@@ -26,136 +26,57 @@ abbrev chain-holds-below : ℕ → In 2 chain-holds-kinds.ps
 chain-holds-below t =
     and 2 chain-holds-kinds.ps (falls 2 chain-holds-kinds.ps _<_ μ-chain-holds t) chain-holds.Pre
 
-chain-holds-returns : (t : ℕ) → chain-holds-lts.Need-returns (
-  entry-holds-reads.Asked,
-  entry-holds-reads.Learnt,
-  u32-at-reads.Asked,
-  u32-at-reads.Learnt,
-  chain-holds-below t,
-  chain-holds.Post,
-) (chain-holds-at t) chain-holds.Post
+-- what is known of the three functions that it calls: entry_holds, u32_at, and itself for an entry number below t
+abbrev chain-holds-claims : ℕ → chain-holds-lts.Claims
+chain-holds-claims t =
+    (entry-holds-reads.Asked, entry-holds-reads.Learnt, u32-at-reads.Asked, u32-at-reads.Learnt, chain-holds-below t, chain-holds.Post)
+
+chain-holds-returns : (t : ℕ) → chain-holds-lts.Need-returns (chain-holds-claims t) (chain-holds-at t) chain-holds.Post
 chain-holds-returns t c = chain-none _ _ _ _ (c .if1 .taken)
 
-chain-holds-mul-if2 : (t : ℕ) → chain-holds-lts.Need-mul-if2 (
-  entry-holds-reads.Asked,
-  entry-holds-reads.Learnt,
-  u32-at-reads.Asked,
-  u32-at-reads.Learnt,
-  chain-holds-below t,
-  chain-holds.Post,
-) (chain-holds-at t) chain-holds.Post
+chain-holds-mul-if2 : (t : ℕ) → chain-holds-lts.Need-mul-if2 (chain-holds-claims t) (chain-holds-at t) chain-holds.Post
 chain-holds-mul-if2 t c = search needs
 
-chain-holds-sub-if2 : (t : ℕ) → chain-holds-lts.Need-sub-if2 (
-  entry-holds-reads.Asked,
-  entry-holds-reads.Learnt,
-  u32-at-reads.Asked,
-  u32-at-reads.Learnt,
-  chain-holds-below t,
-  chain-holds.Post,
-) (chain-holds-at t) chain-holds.Post
+chain-holds-sub-if2 : (t : ℕ) → chain-holds-lts.Need-sub-if2 (chain-holds-claims t) (chain-holds-at t) chain-holds.Post
 chain-holds-sub-if2 t c = search needs
 
-chain-holds-returns-2 : (t : ℕ) → chain-holds-lts.Need-returns-2 (
-  entry-holds-reads.Asked,
-  entry-holds-reads.Learnt,
-  u32-at-reads.Asked,
-  u32-at-reads.Learnt,
-  chain-holds-below t,
-  chain-holds.Post,
-) (chain-holds-at t) chain-holds.Post
+chain-holds-returns-2 : (t : ℕ) → chain-holds-lts.Need-returns-2 (chain-holds-claims t) (chain-holds-at t) chain-holds.Post
 chain-holds-returns-2 t c = let left = c .before .if1 .left in chain-astray _ _ _ _ (omega arith) (c .if2 .taken)
 
-chain-holds-entry-holds-requires : (t : ℕ) → chain-holds-lts.Need-entry-holds-requires (
-  entry-holds-reads.Asked,
-  entry-holds-reads.Learnt,
-  u32-at-reads.Asked,
-  u32-at-reads.Learnt,
-  chain-holds-below t,
-  chain-holds.Post,
-) (chain-holds-at t) chain-holds.Post
+chain-holds-entry-holds-requires : (t : ℕ) → chain-holds-lts.Need-entry-holds-requires (chain-holds-claims t) (chain-holds-at t) chain-holds.Post
 chain-holds-entry-holds-requires t c κs =
     let some = c .before .before .if1 .left in
     let p = c .before .before .before .pre .1 in
     ((omega arith, p .0, c .before .if2 .left), p .1)
 
-chain-holds-returns-3 : (t : ℕ) → chain-holds-lts.Need-returns-3 (
-  entry-holds-reads.Asked,
-  entry-holds-reads.Learnt,
-  u32-at-reads.Asked,
-  u32-at-reads.Learnt,
-  chain-holds-below t,
-  chain-holds.Post,
-) (chain-holds-at t) chain-holds.Post
+chain-holds-returns-3 : (t : ℕ) → chain-holds-lts.Need-returns-3 (chain-holds-claims t) (chain-holds-at t) chain-holds.Post
 chain-holds-returns-3 t c =
     let some = c .before .before .before .before .if1 .left in
     chain-broken _ _ _ _ (omega arith) (c .before .before .before .if2 .left) (sym (c .before .entry-holds .ensures) ∙ not-true _ (c .if3 .taken))
 
-chain-holds-add-u32-at : (t : ℕ) → chain-holds-lts.Need-add-u32-at (
-  entry-holds-reads.Asked,
-  entry-holds-reads.Learnt,
-  u32-at-reads.Asked,
-  u32-at-reads.Learnt,
-  chain-holds-below t,
-  chain-holds.Post,
-) (chain-holds-at t) chain-holds.Post
+chain-holds-add-u32-at : (t : ℕ) → chain-holds-lts.Need-add-u32-at (chain-holds-claims t) (chain-holds-at t) chain-holds.Post
 chain-holds-add-u32-at t c = omega arith
 
-chain-holds-u32-at-requires : (t : ℕ) → chain-holds-lts.Need-u32-at-requires (
-  entry-holds-reads.Asked,
-  entry-holds-reads.Learnt,
-  u32-at-reads.Asked,
-  u32-at-reads.Learnt,
-  chain-holds-below t,
-  chain-holds.Post,
-) (chain-holds-at t) chain-holds.Post
+chain-holds-u32-at-requires : (t : ℕ) → chain-holds-lts.Need-u32-at-requires (chain-holds-claims t) (chain-holds-at t) chain-holds.Post
 chain-holds-u32-at-requires t c κs =
     let some = c .before .before .before .before .before .if1 .left in
     let place = c .before .before .before .before .if2 .left in
     let p = c .before .before .before .before .before .before .pre .1 in
     omega (arith, p .1)
 
-chain-holds-cast-chain-holds : (t : ℕ) → chain-holds-lts.Need-cast-chain-holds (
-  entry-holds-reads.Asked,
-  entry-holds-reads.Learnt,
-  u32-at-reads.Asked,
-  u32-at-reads.Learnt,
-  chain-holds-below t,
-  chain-holds.Post,
-) (chain-holds-at t) chain-holds.Post
+chain-holds-cast-chain-holds : (t : ℕ) → chain-holds-lts.Need-cast-chain-holds (chain-holds-claims t) (chain-holds-at t) chain-holds.Post
 chain-holds-cast-chain-holds t c = search needs
 
-chain-holds-sub-chain-holds : (t : ℕ) → chain-holds-lts.Need-sub-chain-holds (
-  entry-holds-reads.Asked,
-  entry-holds-reads.Learnt,
-  u32-at-reads.Asked,
-  u32-at-reads.Learnt,
-  chain-holds-below t,
-  chain-holds.Post,
-) (chain-holds-at t) chain-holds.Post
+chain-holds-sub-chain-holds : (t : ℕ) → chain-holds-lts.Need-sub-chain-holds (chain-holds-claims t) (chain-holds-at t) chain-holds.Post
 chain-holds-sub-chain-holds t c = omega arith
 
-chain-holds-chain-holds-requires : (t : ℕ) → chain-holds-lts.Need-chain-holds-requires (
-  entry-holds-reads.Asked,
-  entry-holds-reads.Learnt,
-  u32-at-reads.Asked,
-  u32-at-reads.Learnt,
-  chain-holds-below t,
-  chain-holds.Post,
-) (chain-holds-at t) chain-holds.Post
+chain-holds-chain-holds-requires : (t : ℕ) → chain-holds-lts.Need-chain-holds-requires (chain-holds-claims t) (chain-holds-at t) chain-holds.Post
 chain-holds-chain-holds-requires t c κs =
     let some = c .before .before .before .before .before .before .if1 .left in
     let p = c .before .before .before .before .before .before .before .pre in
     (omega (arith, p .0), (omega (arith, p .1 .0), omega (arith, p .1 .1)))
 
-chain-holds-returns-4 : (t : ℕ) → chain-holds-lts.Need-returns-4 (
-  entry-holds-reads.Asked,
-  entry-holds-reads.Learnt,
-  u32-at-reads.Asked,
-  u32-at-reads.Learnt,
-  chain-holds-below t,
-  chain-holds.Post,
-) (chain-holds-at t) chain-holds.Post
+chain-holds-returns-4 : (t : ℕ) → chain-holds-lts.Need-returns-4 (chain-holds-claims t) (chain-holds-at t) chain-holds.Post
 chain-holds-returns-4 t c =
     let some = c .before .before .before .before .before .before .before .if1 .left in
     let place = c .before .before .before .before .before .before .if2 .left in
@@ -163,14 +84,7 @@ chain-holds-returns-4 t c =
     c .chain-holds .ensures ∙ rw (c .before .u32-at .ensures) (chain-on _ _ _ _ (omega arith) place holds)
 
 pub +chain-holds-spec : {M : Type 1} → statement M
-+chain-holds-spec = close μ-chain-holds λ t. chain-holds-lts.spec (
-  entry-holds-reads.Asked,
-  entry-holds-reads.Learnt,
-  u32-at-reads.Asked,
-  u32-at-reads.Learnt,
-  chain-holds-below t,
-  chain-holds.Post,
-)
++chain-holds-spec = close μ-chain-holds λ t. chain-holds-lts.spec (chain-holds-claims t)
     (chain-holds-at t)
     chain-holds.Post
     (chain-holds-returns t)
