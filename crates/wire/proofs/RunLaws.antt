@@ -10,7 +10,7 @@ use lib.ListN.{length, getD, set, take, drop, length-drop, length-replicate, rep
 use lib.Seq.{sets, take-suc, getD-drop, ext-getD}
 use lib.Dec.{eqb}
 use Rattle.wire.specs.Numbers.{le, get, put}
-use Rattle.wire.specs.Parts.{part, zeros, repeated}
+use Rattle.wire.specs.Parts.{part, repeated}
 use Rattle.wire.specs.Bytes.{Bytes, same, allZero}
 use Rattle.wire.proofs.NumbersLaws.{length-le}
 use Rattle.wire.proofs.FormUnique.{le-get}
@@ -33,9 +33,6 @@ pub replicate-more : (d : List ℕ) (at j a : ℕ) → set (sets d at (replicate
 replicate-more d at j a =
     sets-snoc d (replicate j a) at j a (length-replicate j a)
     ∙ ap (sets d at) (replicate-append-replicate j 1 a ∙ ap (λ (n : ℕ). replicate n a) (add-one j))
-
-pub zero-more : (d : List ℕ) (at j : ℕ) → set (sets d at (zeros j)) (at + j) 0 ≡ sets d at (zeros (suc j))
-zero-more d at j = replicate-more d at j 0
 
 pub repeat-more : (d p : List ℕ) (at size k : ℕ) → length p ≡ size → sets (sets d at (repeated k p)) (at + size * k) p ≡ sets d at (repeated (suc k) p)
 repeat-more d p at size k e =

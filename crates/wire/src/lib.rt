@@ -1,4 +1,4 @@
-// Bytes in runs: numbers read and stored (number.rt), and runs copied, cleared, compared and repeated (run.rt). See specs/.
+// Bytes in runs: numbers read and stored (number.rt), and runs copied, set, compared and repeated (run.rt). See specs/.
 mod number;
 mod run;
 
@@ -15,4 +15,5 @@ pub use run::copy_within;
 pub use run::is_zero;
 pub use run::repeat_within;
 pub use run::same_part;
+pub use run::set_part;
 pub use run::zero_part;

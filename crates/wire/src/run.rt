@@ -1,9 +1,9 @@
-// Runs of bytes: copied, cleared, compared and repeated.
+// Runs of bytes: copied, set, compared and repeated.
 use crate::number::put_u32;
 use crate::number::u32_at;
 ghost use mathlib.Core.Path.{_≡_};
 ghost use Prim.Native.Nat.{_+_, _*_, _≤_};
-ghost use lib.ListN.{length};
+ghost use lib.ListN.{length, replicate};
 ghost use lib.Seq.{sets};
 ghost use Rattle.wire.specs.Parts.{part, zeros, repeated};
 ghost use Rattle.wire.specs.Bytes.{same, allZero};
@@ -32,16 +32,24 @@ pub fn copy_within(s: &mut [u8], to: usize, from: usize, n: usize)
     }
 }
 
+// Sets the n bytes from `at` to b.
+pub fn set_part(s: &mut [u8], at: usize, n: usize, b: u8)
+    requires { ⌜ at + n ≤ length (now s) ⌝ }
+    ensures { λ _. ⌜ now (s .exit) ≡ sets (now (s .entry)) at (replicate n b) ⌝ }
+{
+    let mut j = 0;
+    while j < n {
+        s[at + j] = b;
+        j += 1;
+    }
+}
+
 // Sets the n bytes from `at` to 0.
 pub fn zero_part(s: &mut [u8], at: usize, n: usize)
     requires { ⌜ at + n ≤ length (now s) ⌝ }
     ensures { λ _. ⌜ now (s .exit) ≡ sets (now (s .entry)) at (zeros n) ⌝ }
 {
-    let mut j = 0;
-    while j < n {
-        s[at + j] = 0;
-        j += 1;
-    }
+    set_part(s, at, n, 0);
 }
 
 // Whether the n bytes from `from` are all 0. It looks at every byte: such a loop is done sixteen bytes at a time.

@@ -20,9 +20,5 @@ pub fn empty_history(r: &mut [u8])
     requires { ⌜ length (now r) ≡ recordSize ⌝ }
     ensures { λ _. ⌜ now (r .exit) ≡ sets (now (r .entry)) (headSize + tableHeadSize) emptyHistory ⌝ }
 {
-    let mut i = 0;
-    while i < 478 {
-        r[546 + i] = 0x80;
-        i += 1;
-    }
+    wire::set_part(r, 546, 478, 0x80);
 }
