@@ -1,22 +1,22 @@
 -- What the checks of a step say of the record when they pass.
 use mathlib.Core.Path.{_≡_, refl, sym, ap, _∙_}
-use mathlib.Core.Bool.{Bool, true}
-use mathlib.Core.List.{List}
+use mathlib.Core.Bool.{Bool, true, false}
+use mathlib.Core.List.{List, [], _∷_, _++_}
 use Prim.Native.Nat.{ℕ, _*_, _+_, _/_, _≤_, _<_}
 use native.Mathlib.Omega.{arith}
 use lib.ListN.{length}
 use lib.Dec.{leb, ltb}
 use borrow.Author.Tests.{eqb-true, leb-true, ltb-true}
-use Rattle.wire.specs.Choice.{firstFailed}
+use Rattle.wire.specs.Choice.{if_then_else_, Check, firstFailed, ifPassed}
 use Rattle.wire.specs.Bytes.{Bytes}
 use Rattle.wire.specs.Numbers.{put}
-use Rattle.wire.proofs.ChoiceLaws.{and-left, and-right, all-pass, pass-all}
+use Rattle.wire.proofs.ChoiceLaws.{and-left, and-right, Numbered, passed-not, chosen-refusal, chosen-done, all-pass, pass-all}
 use Rattle.model.specs.Sizes.{sectorSize, nativeLimit, portCount, mailboxSize, entrySize, entryLimit}
 use Rattle.model.specs.Image.{entries, imageChecks}
 use Rattle.store.specs.Areas.{recordSize, privateSize}
 use Rattle.store.specs.Record.{Stage, stageNumber, slotAt, encode, decode}
 use Rattle.store.specs.Sound.{sound}
-use Rattle.store.specs.Entries.{withStage, mailboxChecks, serveChecks, workChecks, visibleChecks, saveChecks, powerOnChecks}
+use Rattle.store.specs.Entries.{goodPort, isHeld, inStage, withStage, mailboxChecks, serveChecks, workChecks, visibleChecks, saveChecks, powerOnChecks}
 use Rattle.store.proofs.SoundLaws.{sound-parts, sound-valid}
 use Rattle.store.proofs.StageLaws.{stage-stored}
 
@@ -30,10 +30,20 @@ unfolding decode
 sound-stage r p s e h =
     ap (λ (l : List ℕ). put 1 l (slotAt p) (stageNumber s)) (sym (sound-parts r e .again)) ∙ stage-stored (decode r) p s refl h
 
+-- checks, then others: those decide where the first all pass
+pub first-then : (bound : ℕ) (cs ds : List Check) → Numbered bound cs → firstFailed (cs ++ ds) ≡ ifPassed (firstFailed cs) (firstFailed ds) (firstFailed cs)
+first-then bound [] ds n = refl
+first-then bound (c ∷ cs) ds n = go (c .0) (first-then bound cs ds (n .2))
+  where
+    go : (b : Bool) → firstFailed (cs ++ ds) ≡ ifPassed (firstFailed cs) (firstFailed ds) (firstFailed cs) → (if b then firstFailed (cs ++ ds) else c .1) ≡ ifPassed (if b then firstFailed cs else c .1) (firstFailed ds) (if b then firstFailed cs else c .1)
+    go true h = h
+    go false h = sym (passed-not (c .1) (firstFailed ds) (c .1) (λ z. omega (arith, n .0, z)))
+
 -- ---- what passed
 
 pub record MailboxPassed (r : List ℕ) (p : ℕ) (m a : List ℕ) : Type 0 where
   pub isSound : sound r ≡ true
+  pub recordSized : length r ≡ recordSize
   pub mailboxSized : length m ≡ mailboxSize
   pub areaSized : length a ≡ privateSize
   pub port : p < portCount
@@ -43,6 +53,7 @@ mailbox-passed stage r p m a e z =
     let all = all-pass 4 (mailboxChecks stage r p m a) (omega arith) (sym e ∙ z) in
     record {
       isSound = all .0;
+      recordSized = sound-parts r (all .0) .size;
       mailboxSized = eqb-true (length m) mailboxSize (all .1 .0);
       areaSized = eqb-true (length a) privateSize (all .1 .1 .0);
       port = ltb-true p portCount (all .1 .1 .1 .0);
@@ -62,16 +73,22 @@ work-passed r a disk e z =
       diskSized = eqb-true (length disk) (sectorSize * decode r .device .native) (all .1 .1 .0);
     }
 
+-- serve's checks are work's, then those of the slot ..
+pub serve-first : (r : List ℕ) (p : ℕ) (a disk : List ℕ) (n : ℕ) → n ≡ firstFailed (workChecks r a disk) → (n ≡ 0 → ⊥) → n ≡ firstFailed (serveChecks r p a disk)
+serve-first r p a disk n e some =
+    sym (first-then 4 (workChecks r a disk) (goodPort p ∷ inStage isHeld r p ∷ []) (omega arith)
+    ∙ chosen-refusal n (firstFailed (workChecks r a disk)) (firstFailed (goodPort p ∷ inStage isHeld r p ∷ [])) (λ (k : ℕ). k) e some)
+
+pub serve-second : (r : List ℕ) (p : ℕ) (a disk : List ℕ) (n : ℕ) → n ≡ firstFailed (workChecks r a disk) → n ≡ 0 → firstFailed (goodPort p ∷ inStage isHeld r p ∷ []) ≡ firstFailed (serveChecks r p a disk)
+serve-second r p a disk n e z =
+    sym (first-then 4 (workChecks r a disk) (goodPort p ∷ inStage isHeld r p ∷ []) (omega arith)
+    ∙ chosen-done n (firstFailed (workChecks r a disk)) (firstFailed (goodPort p ∷ inStage isHeld r p ∷ [])) (firstFailed (workChecks r a disk)) e z)
+
+-- .. so where they pass, work's do
 pub serve-passed : (r : List ℕ) (p : ℕ) (a disk : List ℕ) {n : ℕ} → n ≡ firstFailed (serveChecks r p a disk) → n ≡ 0 → DiskPassed r a disk × (p < portCount)
 serve-passed r p a disk e z =
-    let all = all-pass 4 (serveChecks r p a disk) (omega arith) (sym e ∙ z) in (
-      record {
-        isSound = all .0;
-        areaSized = eqb-true (length a) privateSize (all .1 .0);
-        diskSized = eqb-true (length disk) (sectorSize * decode r .device .native) (all .1 .1 .0);
-      },
-      ltb-true p portCount (all .1 .1 .1 .0),
-    )
+    let all = all-pass 4 (serveChecks r p a disk) (omega arith) (sym e ∙ z) in
+    (work-passed r a disk refl (pass-all (workChecks r a disk) (all .0, (all .1 .0, (all .1 .1 .0, tt)))), ltb-true p portCount (all .1 .1 .1 .0))
 
 pub visible-passed : (r : List ℕ) (v : ℕ) {n : ℕ} → n ≡ firstFailed (visibleChecks r v) → n ≡ 0 → sound r ≡ true
 visible-passed r v e z = all-pass 5 (visibleChecks r v) (omega arith) (sym e ∙ z) .0

@@ -53,57 +53,58 @@ fn slot_refusal(device: &[u8], port: u32, needed: Stage) -> u32
 }
 
 // The checks of take and give. They see the sizes of mailbox and private area, not their bytes.
-pub fn mailbox_refusal(device: &[u8], port: u32, mailbox: usize, area: usize, needed: Stage) -> u32
-    ensures { λ n. ⌜ ((m a : List ℕ) → length m ≡ mailbox → length a ≡ area → n ≡ firstFailed (mailboxChecks (isStage (asStage needed)) (now (device .entry)) port m a)) ⌝ }
+pub fn mailbox_refusal(
+    device: &[u8],
+    port: u32,
+    mailbox_len: usize,
+    area_len: usize,
+    needed: Stage,
+) -> u32
+    ensures { λ n. ⌜ ((m a : List ℕ) → length m ≡ «mailbox_len» → length a ≡ «area_len» → n ≡ firstFailed (mailboxChecks (isStage (asStage needed)) (now (device .entry)) port m a)) ⌝ }
 {
     if !soundness::sound(device) {
         return 4;
     }
-    if mailbox != 528 {
+    if mailbox_len != 528 {
         return 2;
     }
-    if area != 2624 {
+    if area_len != 2624 {
         return 2;
     }
     slot_refusal(device, port, needed)
 }
 
-// "the disk isn't N sectors": 2.
-fn is_disk(device: &[u8], disk: usize) -> bool
+// Whether a disk of this length has the record's N sectors.
+fn is_disk(device: &[u8], disk_len: usize) -> bool
     requires { ⌜ sound (now device) ≡ true ⌝ }
-    ensures { λ r. ⌜ r ≡ eqb disk (sectorSize * decode (now (device .entry)) .device .native) ⌝ }
+    ensures { λ r. ⌜ r ≡ eqb «disk_len» (sectorSize * decode (now (device .entry)) .device .native) ⌝ }
 {
-    disk as u64 == 512 * record::native_at(device)
-}
-
-// The checks of serve.
-pub fn serve_refusal(device: &[u8], port: u32, area: usize, disk: usize) -> u32
-    ensures { λ n. ⌜ ((a sectors : List ℕ) → length a ≡ area → length sectors ≡ disk → n ≡ firstFailed (serveChecks (now (device .entry)) port a sectors)) ⌝ }
-{
-    if !soundness::sound(device) {
-        return 4;
-    }
-    if area != 2624 {
-        return 2;
-    }
-    if !is_disk(device, disk) {
-        return 2;
-    }
-    slot_refusal(device, port, Stage::Held)
+    disk_len as u64 == 512 * record::native_at(device)
 }
 
 // The checks of work.
-pub fn work_refusal(device: &[u8], area: usize, disk: usize) -> u32
-    ensures { λ n. ⌜ ((a sectors : List ℕ) → length a ≡ area → length sectors ≡ disk → n ≡ firstFailed (workChecks (now (device .entry)) a sectors)) ⌝ }
+pub fn work_refusal(device: &[u8], area_len: usize, disk_len: usize) -> u32
+    ensures { λ n. ⌜ ((a sectors : List ℕ) → length a ≡ «area_len» → length sectors ≡ «disk_len» → n ≡ firstFailed (workChecks (now (device .entry)) a sectors)) ⌝ }
 {
     if !soundness::sound(device) {
         return 4;
     }
-    if area != 2624 {
+    if area_len != 2624 {
         return 2;
     }
-    if !is_disk(device, disk) {
+    if !is_disk(device, disk_len) {
         return 2;
     }
     0
+}
+
+// The checks of serve: those of work, then port and stage.
+pub fn serve_refusal(device: &[u8], port: u32, area_len: usize, disk_len: usize) -> u32
+    ensures { λ n. ⌜ ((a sectors : List ℕ) → length a ≡ «area_len» → length sectors ≡ «disk_len» → n ≡ firstFailed (serveChecks (now (device .entry)) port a sectors)) ⌝ }
+{
+    let refusal = work_refusal(device, area_len, disk_len);
+    if refusal != 0 {
+        return refusal;
+    }
+    slot_refusal(device, port, Stage::Held)
 }

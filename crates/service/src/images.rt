@@ -32,27 +32,33 @@ pub extern "C" fn sct_save(device: &[u8], image: &mut [u8], used: u64) -> u32
     0
 }
 
-// "power-on: not 1 to 65,536 whole sectors"
-fn is_whole(disk: usize) -> bool
-    ensures { λ r. ⌜ r ≡ wholeSectors disk ⌝ }
+// Whether a disk of this length is 1 to 65,536 whole sectors.
+fn is_whole(disk_len: usize) -> bool
+    ensures { λ r. ⌜ r ≡ wholeSectors «disk_len» ⌝ }
 {
-    (disk % 512 == 0) & ((1 <= disk / 512) & (disk / 512 <= 65536))
+    (disk_len % 512 == 0) & ((1 <= disk_len / 512) & (disk_len / 512 <= 65536))
 }
 
 // The checks of power-on. They see the sizes of record, private area and disk, not their bytes.
-fn power_on_refusal(device: usize, area: usize, disk: usize, image: &[u8], used: usize) -> u32
-    ensures { λ n. ⌜ ((r a sectors : List ℕ) → length r ≡ device → length a ≡ area → length sectors ≡ disk → n ≡ firstFailed (powerOnChecks r a sectors (now (image .entry)) used)) ⌝ }
+fn power_on_refusal(
+    device_len: usize,
+    area_len: usize,
+    disk_len: usize,
+    image: &[u8],
+    used: usize,
+) -> u32
+    ensures { λ n. ⌜ ((r a sectors : List ℕ) → length r ≡ «device_len» → length a ≡ «area_len» → length sectors ≡ «disk_len» → n ≡ firstFailed (powerOnChecks r a sectors (now (image .entry)) used)) ⌝ }
 {
-    if device != 1024 {
+    if device_len != 1024 {
         return 2;
     }
-    if area != 2624 {
+    if area_len != 2624 {
         return 2;
     }
-    if !is_whole(disk) {
+    if !is_whole(disk_len) {
         return 2;
     }
-    image::read_refusal((disk / 512) as u64, image, used)
+    image::read_refusal((disk_len / 512) as u64, image, used)
 }
 
 // "Power-on from length 0 ..; otherwise the newest entry"; "private area all zeros"

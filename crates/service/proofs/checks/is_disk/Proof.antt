@@ -18,7 +18,7 @@ mul-result c =
     let h = native-limit (entry .args .device .now) (λ i. omega (arith, known .shared-slice-known .given i)) (entry .pre) in let e = c .native-at .ensures in omega (arith, h, e)
 
 returns : tie.Need-returns
-returns c = ap (λ (n : ℕ). eqb (c .before .before .args .disk) (512 * n)) (c .native-at .ensures)
+returns c = ap (λ (n : ℕ). eqb (c .before .before .args .disk-len) (512 * n)) (c .native-at .ensures)
 
 pub is-disk-spec : {M : Type 1} → statement M
 is-disk-spec = tie.close (tie.spec native-at-requires mul-result returns)

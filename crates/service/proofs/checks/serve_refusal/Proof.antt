@@ -1,61 +1,36 @@
 -- `service::checks::serve_refusal` meets its contract.
+use mathlib.Core.Path.{_∙_}
+use Rattle.wire.specs.Parts.{zeros}
+use Rattle.wire.proofs.PartsLaws.{length-zeros}
 use Rattle.store.proofs.SoundLaws.{sound-parts}
-use borrow.Author.Tests.{ne-eqb, eq-eqb}
-use Rattle.command.proofs.TestLaws.{passed, failed}
+use Rattle.service.proofs.CheckLaws.{work-passed, serve-first, serve-second}
 use borrow.Author.Needs.{needs}
 use Rattle.service.proofs.checks.serve_refusal.Statement.{statement}
 use Rattle.service.proofs.checks.serve_refusal.Tie as tie
 
-sound-requires : tie.Need-sound-requires
-sound-requires c κs = search needs
+work-refusal-requires : tie.Need-work-refusal-requires
+work-refusal-requires c κs = search needs
 
 returns : tie.Need-returns
-returns c = λ a disk ea ed. rw (failed (c .before .sound .ensures) (c .if1 .taken))
+returns c =
+    let work = c .before .work-refusal in
+    let a = c .before .before .before .args in
+    λ m disk em ed. serve-first (a .device .now) (a .port) m disk (work .result) (work .ensures m disk em ed) (c .if1 .taken)
+
+slot-refusal-requires : tie.Need-slot-refusal-requires
+slot-refusal-requires c κs =
+    let a = c .before .before .before .args in
+    let anyArea = zeros (a .area-len) in
+    let anyDisk = zeros (a .disk-len) in
+    sound-parts (a .device .now) (work-passed (a .device .now) anyArea anyDisk (c .before .work-refusal .ensures anyArea anyDisk (length-zeros (a .area-len)) (length-zeros (a .disk-len))) (c .if1 .left) .isSound) .size
 
 returns-2 : tie.Need-returns-2
 returns-2 c =
     let at-if1 = c .before in
-    let at-sound = at-if1 .before in
-    let entry = at-sound .before .before in
-    λ a disk ea ed. rw (passed (at-sound .sound .ensures) (at-if1 .if1 .left), ea, ne-eqb (entry .args .area) 2624 (c .if2 .taken))
-
-is-disk-requires : tie.Need-is-disk-requires
-is-disk-requires c κs = passed (c .before .before .sound .ensures) (c .before .if1 .left)
-
-returns-3 : tie.Need-returns-3
-returns-3 c =
-    let at-is-disk = c .before in
-    let at-if2 = at-is-disk .before in
-    let at-if1 = at-if2 .before in
-    let at-sound = at-if1 .before in
-    let entry = at-sound .before .before in
-    λ a disk ea ed. rw (passed (at-sound .sound .ensures) (at-if1 .if1 .left), ea, ed, eq-eqb (entry .args .area) 2624 (at-if2 .if2 .left), failed (at-is-disk .is-disk .ensures) (c .if3 .taken))
-
-slot-refusal-requires : tie.Need-slot-refusal-requires
-slot-refusal-requires c κs =
-    let at-if1 = c .before .before .before in
-    let at-sound = at-if1 .before in
-    let entry = at-sound .before .before in
-    sound-parts (entry .args .device .now) (passed (at-sound .sound .ensures) (at-if1 .if1 .left)) .size
-
-returns-4 : tie.Need-returns-4
-returns-4 c =
-    let at-if3 = c .before in
-    let at-is-disk = at-if3 .before in
-    let at-if2 = at-is-disk .before in
-    let at-if1 = at-if2 .before in
-    let at-sound = at-if1 .before in
-    let entry = at-sound .before .before in
-    λ a disk ea ed. rw (passed (at-sound .sound .ensures) (at-if1 .if1 .left), ea, ed, eq-eqb (entry .args .area) 2624 (at-if2 .if2 .left), passed (at-is-disk .is-disk .ensures) (at-if3 .if3 .left)) (c .slot-refusal .ensures)
+    let work = at-if1 .before .work-refusal in
+    let a = at-if1 .before .before .before .args in
+    λ m disk em ed. c .slot-refusal .ensures ∙ serve-second (a .device .now) (a .port) m disk (work .result) (work .ensures m disk em ed) (at-if1 .if1 .left)
 
 pub serve-refusal-spec : {M : Type 1} → statement M
 serve-refusal-spec =
-    tie.close
-    (tie.spec
-    sound-requires
-    returns
-    returns-2
-    is-disk-requires
-    returns-3
-    slot-refusal-requires
-    returns-4)
+    tie.close (tie.spec work-refusal-requires returns slot-refusal-requires returns-2)

@@ -5,12 +5,17 @@ use native.Mathlib.Omega.{arith}
 use Rattle.wire.proofs.PartsLaws.{length-part, sets-whole}
 use Rattle.store.specs.Record.{empty}
 use Rattle.store.specs.Entries.{isAnswered}
-use Rattle.store.proofs.SoundLaws.{sound-parts}
-use Rattle.service.proofs.CheckLaws.{mailbox-passed, sound-stage}
+use Rattle.service.proofs.CheckLaws.{MailboxPassed, mailbox-passed, sound-stage}
 use Rattle.service.proofs.StepLaws.{give-refused, give-done}
 use borrow.Author.Needs.{needs}
 use Rattle.service.proofs.ports.sct_give.Statement.{statement}
 use Rattle.service.proofs.ports.sct_give.Tie as tie
+
+-- what the checks say where none failed
+passed : (c : tie.Else1) → let a = c .before .before .before .before .before .before .args in MailboxPassed (a .device .now) (a .port) (a .mailbox .now) (a .area .now)
+passed c =
+    let a = c .before .before .before .before .before .before .args in
+    mailbox-passed isAnswered (a .device .now) (a .port) (a .mailbox .now) (a .area .now) (c .before .mailbox-refusal .ensures (a .mailbox .now) (a .area .now) refl refl) (c .if1 .left)
 
 mailbox-refusal-requires : tie.Need-mailbox-refusal-requires
 mailbox-refusal-requires c κs = search needs
@@ -29,22 +34,11 @@ mul-copy-part : tie.Need-mul-copy-part
 mul-copy-part c = search needs
 
 copy-part-requires : tie.Need-copy-part-requires
-copy-part-requires c κs =
-    let at-if1 = c .before in
-    let at-mailbox-refusal = at-if1 .before in
-    let entry = at-mailbox-refusal .before .before .before .before .before in
-    let a = entry .args in
-    let ok = mailbox-passed isAnswered (a .device .now) (a .port) (a .mailbox .now) (a .area .now) (at-mailbox-refusal .mailbox-refusal .ensures (a .mailbox .now) (a .area .now) refl refl) (at-if1 .if1 .left) in
-    omega (arith, ok)
+copy-part-requires c κs = omega (arith, passed (c .before))
 
 put-stage-requires : tie.Need-put-stage-requires
 put-stage-requires c κs =
-    let at-if1 = c .before .before .before .before .before in
-    let at-mailbox-refusal = at-if1 .before in
-    let entry = at-mailbox-refusal .before .before .before .before .before in
-    let a = entry .args in
-    let ok = mailbox-passed isAnswered (a .device .now) (a .port) (a .mailbox .now) (a .area .now) (at-mailbox-refusal .mailbox-refusal .ensures (a .mailbox .now) (a .area .now) refl refl) (at-if1 .if1 .left) in
-    (sound-parts (a .device .now) (ok .isSound) .size, ok .port)
+    let ok = passed (c .before .before .before .before .before) in (ok .recordSized, ok .port)
 
 same-length-2 : tie.Need-same-length-2
 same-length-2 c = search needs
@@ -60,7 +54,7 @@ returns-2 c =
     let at-mailbox-refusal = at-if1 .before in
     let entry = at-mailbox-refusal .before .before .before .before .before in
     let a = entry .args in
-    let ok = mailbox-passed isAnswered (a .device .now) (a .port) (a .mailbox .now) (a .area .now) (at-mailbox-refusal .mailbox-refusal .ensures (a .mailbox .now) (a .area .now) refl refl) (at-if1 .if1 .left) in
+    let ok = passed at-if1 in
     rw (give-done (a .device .now) (a .port) (a .mailbox .now) (a .area .now) (at-mailbox-refusal .mailbox-refusal .result) (at-mailbox-refusal .mailbox-refusal .ensures (a .mailbox .now) (a .area .now) refl refl) (at-if1 .if1 .left))
     (refl, (rw (at-put-stage .put-stage .ensures) (sound-stage (a .device .now) (a .port) empty (ok .isSound) (ok .port)), rw (at-copy-part .copy-part .ensures) (sets-whole _ (a .mailbox .now) 528 (length-part (a .area .now) (528 * a .port) 528 (omega (arith, ok))) (ok .mailboxSized))))
 

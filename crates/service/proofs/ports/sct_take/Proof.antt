@@ -8,12 +8,17 @@ use Rattle.wire.proofs.PartsLaws.{part-whole}
 use Rattle.store.specs.Areas.{slotPlace}
 use Rattle.store.specs.Record.{held}
 use Rattle.store.specs.Entries.{isEmpty}
-use Rattle.store.proofs.SoundLaws.{sound-parts}
-use Rattle.service.proofs.CheckLaws.{mailbox-passed, sound-stage}
+use Rattle.service.proofs.CheckLaws.{MailboxPassed, mailbox-passed, sound-stage}
 use Rattle.service.proofs.StepLaws.{take-refused, take-done}
 use borrow.Author.Needs.{needs}
 use Rattle.service.proofs.ports.sct_take.Statement.{statement}
 use Rattle.service.proofs.ports.sct_take.Tie as tie
+
+-- what the checks say where none failed
+passed : (c : tie.Else1) → let a = c .before .before .before .before .before .before .args in MailboxPassed (a .device .now) (a .port) (a .mailbox .now) (a .area .now)
+passed c =
+    let a = c .before .before .before .before .before .before .args in
+    mailbox-passed isEmpty (a .device .now) (a .port) (a .mailbox .now) (a .area .now) (c .before .mailbox-refusal .ensures (a .mailbox .now) (a .area .now) refl refl) (c .if1 .left)
 
 mailbox-refusal-requires : tie.Need-mailbox-refusal-requires
 mailbox-refusal-requires c κs = search needs
@@ -32,22 +37,11 @@ mul-copy-part : tie.Need-mul-copy-part
 mul-copy-part c = search needs
 
 copy-part-requires : tie.Need-copy-part-requires
-copy-part-requires c κs =
-    let at-if1 = c .before in
-    let at-mailbox-refusal = at-if1 .before in
-    let entry = at-mailbox-refusal .before .before .before .before .before in
-    let a = entry .args in
-    let ok = mailbox-passed isEmpty (a .device .now) (a .port) (a .mailbox .now) (a .area .now) (at-mailbox-refusal .mailbox-refusal .ensures (a .mailbox .now) (a .area .now) refl refl) (at-if1 .if1 .left) in
-    omega (arith, ok)
+copy-part-requires c κs = omega (arith, passed (c .before))
 
 put-stage-requires : tie.Need-put-stage-requires
 put-stage-requires c κs =
-    let at-if1 = c .before .before .before .before .before in
-    let at-mailbox-refusal = at-if1 .before in
-    let entry = at-mailbox-refusal .before .before .before .before .before in
-    let a = entry .args in
-    let ok = mailbox-passed isEmpty (a .device .now) (a .port) (a .mailbox .now) (a .area .now) (at-mailbox-refusal .mailbox-refusal .ensures (a .mailbox .now) (a .area .now) refl refl) (at-if1 .if1 .left) in
-    (sound-parts (a .device .now) (ok .isSound) .size, ok .port)
+    let ok = passed (c .before .before .before .before .before) in (ok .recordSized, ok .port)
 
 same-length-2 : tie.Need-same-length-2
 same-length-2 c = search needs
@@ -63,7 +57,7 @@ returns-2 c =
     let at-mailbox-refusal = at-if1 .before in
     let entry = at-mailbox-refusal .before .before .before .before .before in
     let a = entry .args in
-    let ok = mailbox-passed isEmpty (a .device .now) (a .port) (a .mailbox .now) (a .area .now) (at-mailbox-refusal .mailbox-refusal .ensures (a .mailbox .now) (a .area .now) refl refl) (at-if1 .if1 .left) in
+    let ok = passed at-if1 in
     rw (take-done (a .device .now) (a .port) (a .mailbox .now) (a .area .now) (at-mailbox-refusal .mailbox-refusal .result) (at-mailbox-refusal .mailbox-refusal .ensures (a .mailbox .now) (a .area .now) refl refl) (at-if1 .if1 .left))
     (refl, (rw (at-put-stage .put-stage .ensures) (sound-stage (a .device .now) (a .port) held (ok .isSound) (ok .port)), rw (at-copy-part .copy-part .ensures) (ap (λ (l : List ℕ). sets (a .area .now) (slotPlace (a .port)) l) (part-whole (a .mailbox .now) 528 (ok .mailboxSized)))))
 
