@@ -1,6 +1,6 @@
 -- The device that power-on makes, and the record of it.
-use mathlib.Core.Path.{_≡_, sym, ap, _∙_}
-use mathlib.Core.Bool.{Bool, false}
+use mathlib.Core.Path.{_≡_, sym, ap, _∙_, subst}
+use mathlib.Core.Bool.{Bool, true, false}
 use Prim.Native.Nat.{ℕ, _+_, _-_, _≤_}
 use native.Mathlib.Omega.{arith}
 use mathlib.Core.List.{List}
@@ -13,17 +13,20 @@ use Rattle.wire.specs.Numbers.{get}
 use Rattle.wire.specs.Parts.{part}
 use Rattle.wire.specs.Bytes.{Bytes}
 use Rattle.wire.proofs.PartsLaws.{length-part, part-same}
-use Rattle.model.specs.Sizes.{portCount, missing, bodySize, entrySize}
+use Rattle.model.specs.Sizes.{portCount, historySize, missing, bodySize, entrySize}
 use Rattle.model.specs.Device.{idle, Settings, Device}
-use Rattle.model.specs.Temperature.{emptyHistory, emptyIndex}
+use Rattle.model.specs.Temperature.{tableHeadSize, emptyHistory, emptyIndex}
 use Rattle.model.specs.Fill.{nothingPending}
 use Rattle.model.specs.Image.{Saved, savedIn, trailerPlace, entries, imageChecks, blank, powerOnSettings, powerOnThermal, powerOn, restored}
 use Rattle.model.proofs.ImageLaws.{readable-parts}
+use Rattle.store.specs.Areas.{headSize}
 use Rattle.store.specs.Record.{Stage, empty, encode}
 use Rattle.store.specs.Entries.{restoredContents}
 use Rattle.record.specs.Meaning.{historyOf}
 use Rattle.writing.specs.Framed.{Framed}
+use Rattle.writing.specs.Blank.{blankRecord}
 use Rattle.writing.proofs.FramedLaws.{history-stored}
+use Rattle.writing.proofs.BlankLaws.{blank-framed, blank-history}
 use Rattle.image.specs.InPlace.{savedAt}
 use Rattle.image.proofs.EntryInPlace.{saved-at}
 use Rattle.image.proofs.RefusalLaws.{read-readable, read-entry}
@@ -66,22 +69,38 @@ history-kept s d history ed e =
 
 -- ---- the history in the record
 
-abbrev historyAfter : List ℕ → ℕ → ℕ → List ℕ
-historyAfter image at interval = if eqb interval (savedAt image at .logInterval .state) then savedAt image at .history else emptyHistory
+module _ (r image : List ℕ) (at interval : ℕ) where
+  abbrev copied : List ℕ
+  copied =
+      if eqb interval (savedAt image at .logInterval .state) then sets r (headSize + tableHeadSize) (savedAt image at .history) else r
 
-module _ (r image : List ℕ) (at interval : ℕ) (f : Framed r) where
-  pub history-copied : interval ≡ get 2 image (at + 22) → at + bodySize ≤ length image
-      → Framed (sets r 546 (part image (at + 66) 478)) × (historyOf (sets r 546 (part image (at + 66) 478)) ≡ historyAfter image at interval)
+  pub history-copied : interval ≡ get 2 image (at + 22) → sets r 546 (part image (at + 66) 478) ≡ copied
   unfolding savedAt
-  history-copied e fits = (
-    history-stored r 546 (part image (at + 66) 478) (omega arith) f,
-    part-same (part image (at + 66) 478) r 546 478 (length-part image (at + 66) 478 (omega arith)) (omega (arith, f .size))
-        ∙ rw (eq-eqb interval (get 2 image (at + 22)) e),
-  )
+  history-copied e = rw (eq-eqb interval (get 2 image (at + 22)) e)
 
-  pub history-left : (interval ≡ get 2 image (at + 22) → ⊥) → historyOf r ≡ emptyHistory → Framed r × (historyOf r ≡ historyAfter image at interval)
+  pub history-left : (interval ≡ get 2 image (at + 22) → ⊥) → r ≡ copied
   unfolding savedAt
-  history-left ne h = (f, h ∙ rw (ne-eqb interval (get 2 image (at + 22)) ne))
+  history-left ne = rw (ne-eqb interval (get 2 image (at + 22)) ne)
+
+saved-history : (image : List ℕ) (at : ℕ) → at + bodySize ≤ length image → length (savedAt image at .history) ≡ historySize
+unfolding savedAt
+saved-history image at fits = length-part image (at + 66) 478 (omega arith)
+
+-- what is left of a blank record when the history is copied, or not
+history-into : (b : Bool) (r h : List ℕ) → Framed r → historyOf r ≡ emptyHistory → length h ≡ historySize
+    → Framed (if b then sets r (headSize + tableHeadSize) h else r) × (historyOf (if b then sets r (headSize + tableHeadSize) h else r) ≡ (if b then h else emptyHistory))
+history-into true r h f none size = (history-stored r 546 h (omega arith) f, part-same h r 546 478 size (omega (arith, f .size)))
+history-into false r h f none size = (f, none)
+
+pub history-after : (r after image : List ℕ) (at interval : ℕ) → at + bodySize ≤ length image → r ≡ blankRecord → after ≡ copied r image at interval
+    → Framed after × (historyOf after ≡ (if eqb interval (savedAt image at .logInterval .state) then savedAt image at .history else emptyHistory))
+history-after r after image at interval fits blanks e =
+    let into =
+    history-into (eqb interval (savedAt image at .logInterval .state)) r (savedAt image at .history)
+    (subst Framed (sym blanks) blank-framed)
+    (ap historyOf blanks ∙ blank-history)
+    (saved-history image at fits) in
+    (subst Framed (sym e) (into .0), ap historyOf e ∙ into .1)
 
 -- ---- the record
 

@@ -11,16 +11,16 @@ use record::Transfer;
 ghost use mathlib.Core.Path.{_≡_};
 ghost use Prim.Native.Nat.{_+_, _≤_};
 ghost use lib.ListN.{length, replicate};
+ghost use lib.Seq.{sets};
 ghost use lib.Dec.{eqb};
 ghost use Rattle.wire.specs.Choice.{if_then_else_, firstFailed};
 ghost use Rattle.model.specs.Sizes.{portCount, bodySize};
-ghost use Rattle.model.specs.Temperature.{emptyHistory, emptyIndex};
+ghost use Rattle.model.specs.Temperature.{tableHeadSize, emptyHistory, emptyIndex};
 ghost use Rattle.model.specs.Image.{Saved, hasBit, imageChecks, blank, powerOnSettings, powerOnThermal, powerOn, restored};
-ghost use Rattle.store.specs.Areas.{recordSize};
+ghost use Rattle.store.specs.Areas.{headSize, recordSize};
 ghost use Rattle.store.specs.Record.{empty, encode};
 ghost use Rattle.store.specs.Entries.{restoredContents};
-ghost use Rattle.record.specs.Meaning.{asSettings, asDevice, stagesOf, historyOf};
-ghost use Rattle.writing.specs.Framed.{Framed};
+ghost use Rattle.record.specs.Meaning.{asSettings, asDevice, stagesOf};
 ghost use Rattle.image.specs.InPlace.{savedAt};
 
 // Whether the bit of a weight (1, 2, 4 ..) is 1 in a byte.
@@ -64,6 +64,10 @@ fn powered(
     ensures { λ r. ⌜ ((s : Saved) → native ≡ s .native → visible ≡ s .visible → initialized ≡ s .initialized → life ≡ s .lifeMaximum → asSettings settings ≡ powerOnSettings s → index ≡ powerOnThermal s .index → asDevice r (powerOnThermal s .history) ≡ powerOn s) ⌝ }
     ensures stages { λ r. ⌜ stagesOf (r .slots) ≡ replicate portCount empty ⌝ }
 {
+    let free = Slot {
+        stage: Stage::Empty,
+        pending: Transfer::None,
+    };
     Device {
         native,
         visible,
@@ -83,24 +87,7 @@ fn powered(
             index,
             minutes: 0,
         },
-        slots: [
-            Slot {
-                stage: Stage::Empty,
-                pending: Transfer::None,
-            },
-            Slot {
-                stage: Stage::Empty,
-                pending: Transfer::None,
-            },
-            Slot {
-                stage: Stage::Empty,
-                pending: Transfer::None,
-            },
-            Slot {
-                stage: Stage::Empty,
-                pending: Transfer::None,
-            },
-        ],
+        slots: [free, free, free, free],
     }
 }
 
@@ -142,9 +129,8 @@ fn saved_device(image: &[u8], at: usize) -> Device
 
 // Copies the history of the entry at `at` into the record, where the interval is still its own.
 fn put_history(r: &mut [u8], image: &[u8], at: usize, interval: u16)
-    requires { ⌜ (Framed (now r)) × (at + bodySize ≤ length (now image)) × (historyOf (now r) ≡ emptyHistory) ⌝ }
-    ensures { λ _. ⌜ Framed (now (r .exit)) ⌝ }
-    ensures history { λ _. ⌜ historyOf (now (r .exit)) ≡ (if eqb interval (savedAt (now (image .entry)) at .logInterval .state) then savedAt (now (image .entry)) at .history else emptyHistory) ⌝ }
+    requires { ⌜ (length (now r) ≡ recordSize) × (at + bodySize ≤ length (now image)) ⌝ }
+    ensures { λ _. ⌜ now (r .exit) ≡ (if eqb interval (savedAt (now (image .entry)) at .logInterval .state) then sets (now (r .entry)) (headSize + tableHeadSize) (savedAt (now (image .entry)) at .history) else now (r .entry)) ⌝ }
 {
     if interval == wire::u16_at(image, at + 22) {
         wire::copy_part(r, 546, image, at + 66, 478);
