@@ -14,7 +14,10 @@ restore-blank-requires : tie.Need-restore-blank-requires
 restore-blank-requires c κs = search needs
 
 sub-restore-entry : tie.Need-sub-restore-entry
-sub-restore-entry c = let a = c .before .before .before .before .args in read-entry (a .native) (a .image .now) (a .used) (c .before .before .before .before .pre .1) (c .before .if1 .left) .0
+sub-restore-entry c =
+    let a = c .before .before .before .before .args in
+    let within = read-entry (a .native) (a .image .now) (a .used) (c .before .before .before .before .pre .1) (c .before .if1 .left) in
+    omega (arith, within .0)
 
 restore-entry-requires : tie.Need-restore-entry-requires
 restore-entry-requires c κs =
