@@ -46,8 +46,11 @@ module _ (r a : List ℕ) (p : ℕ) where
         four = four-slots d (historyOf r) r says;
       }
 
-  pub ready-changed : (d e : code.Device.Device) → Ready r a p d → length (e .slots) ≡ length (d .slots) → Ready r a p e
-  ready-changed d e q same = record { framed = q .framed; size = q .size; port = q .port; four = same ∙ q .four }
+  -- .. with a device changed by a rule
+  pub enter-changed : {rule : Device → Device} (d e : code.Device.Device) → Entered r a p → Bytes r → asContents d (historyOf r) ≡ decode r → Changed rule d e → Ready r a p e
+  enter-changed d e entered b says change =
+      let q = enter-ready d entered b says in
+      record { framed = q .framed; size = q .size; port = q .port; four = change .four ∙ q .four }
 
 -- another decision and other stages that are the same
 pub served-as : (p : ℕ) (k l : Decision) (ss ts : List Stage) (a disk r b newDisk : List ℕ) → k ≡ l → ss ≡ ts

@@ -9,13 +9,14 @@ ghost use lib.ListN.{length};
 ghost use Rattle.model.specs.Sizes.{sectorSize};
 ghost use Rattle.model.specs.Registers.{dataOf, good};
 ghost use Rattle.model.specs.Fill.{interrupt};
-ghost use Rattle.model.specs.Decide.{decision, readLba, writeLba, decideSector};
+ghost use Rattle.model.specs.Decide.{decision, readLba, writeLba, sectorEffect, decideSector};
 ghost use Rattle.store.specs.Record.{decode};
 ghost use Rattle.store.specs.Store.{slotBytes};
 ghost use Rattle.record.specs.Meaning.{asDevice, stagesOf, historyOf};
 ghost use Rattle.command.specs.Meaning.{asDirection};
 ghost use Rattle.perform.specs.Served.{Served, Entered, Ready};
 
+// Leaves the registers of a good reply, and behind them the sector's bytes.
 fn read_sector(r: &mut [u8], area: &mut [u8], disk: &[u8], p: usize, d: Device, lba: u64)
     requires { ⌜ Ready (now r) (now area) p d × (sectorSize * lba + sectorSize ≤ length (now disk)) ⌝ }
     ensures { λ _. ⌜ Served p (decision (asDevice d (historyOf (now (r .entry)))) (good 0 0) (readLba lba)) (stagesOf (d .slots)) (now (area .entry)) (now (disk .entry)) (now (r .exit)) (now (area .exit)) (now (disk .entry)) ⌝ }
@@ -34,6 +35,25 @@ fn write_sector(r: &mut [u8], area: &mut [u8], disk: &mut [u8], p: usize, d: Dev
     wire::copy_part(disk, (512 * lba) as usize, area, 528 * p + 16, 512);
     let e = control::with_flag_cleared(d);
     answer(r, area, p, e, reply::good(0, 0));
+}
+
+// The sector moved, one way or the other.
+fn move_sector(
+    r: &mut [u8],
+    area: &mut [u8],
+    disk: &mut [u8],
+    p: usize,
+    d: Device,
+    dir: Direction,
+    lba: u64,
+)
+    requires { ⌜ Ready (now r) (now area) p d × (sectorSize * lba + sectorSize ≤ length (now disk)) ⌝ }
+    ensures { λ _. ⌜ Served p (decision (asDevice d (historyOf (now (r .entry)))) (good 0 0) (sectorEffect (asDirection dir) lba (dataOf (slotBytes p (now (area .entry)))))) (stagesOf (d .slots)) (now (area .entry)) (now (disk .entry)) (now (r .exit)) (now (area .exit)) (now (disk .exit)) ⌝ }
+{
+    match dir {
+        Direction::Read => read_sector(r, area, disk, p, d, lba),
+        Direction::Write => write_sector(r, area, disk, p, d, lba),
+    }
 }
 
 // "24h and 34h: read or write one sector at the 48-bit LBA"
@@ -56,9 +76,5 @@ pub fn serve_sector(
         answer(r, area, p, e, reply::refused(error));
         return;
     }
-    let Direction::Read = dir else {
-        write_sector(r, area, disk, p, e, lba);
-        return;
-    };
-    read_sector(r, area, disk, p, e, lba);
+    move_sector(r, area, disk, p, e, dir, lba);
 }

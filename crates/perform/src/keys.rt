@@ -47,6 +47,7 @@ fn begin_pattern(r: &mut [u8], area: &mut [u8], p: usize, d: Device, first: u64,
     begin_fill(r, area, p, d, first, end);
 }
 
+// An accepted key: a pattern fill begins, or the key is carried out.
 fn accept(r: &mut [u8], area: &mut [u8], p: usize, d: Device, action: Action)
     requires { ⌜ Ready (now r) (now area) p d ⌝ }
     ensures { λ _. ⌜ ServedBeside p (carryOut (asAction action (patternSector (dataOf (slotBytes p (now (area .entry)))))) p (asDevice d (historyOf (now (r .entry))))) (stagesOf (d .slots)) (now (area .entry)) (now (r .exit)) (now (area .exit)) ⌝ }

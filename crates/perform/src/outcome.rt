@@ -18,6 +18,7 @@ ghost use Rattle.reply.specs.Meaning.{asRegisters};
 ghost use Rattle.control.specs.Change.{isInterval};
 ghost use Rattle.perform.specs.Served.{Carried, Replied, empties, begun};
 
+// Whether a feature is number 3, the log interval.
 fn is_interval(name: FeatureName) -> bool
     ensures { λ r. ⌜ r ≡ isInterval (asFeatureName name) ⌝ }
 {

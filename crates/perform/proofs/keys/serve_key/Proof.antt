@@ -1,8 +1,8 @@
 -- `perform::keys::serve_key` meets its contract.
-use mathlib.Core.Path.{_∙_}
 use native.Mathlib.Omega.{arith}
 use Rattle.store.proofs.SoundLaws.{sound-parts}
-use Rattle.perform.proofs.AnswerLaws.{enter-ready, ready-changed}
+use Rattle.control.proofs.ChangeLaws.{four-slots}
+use Rattle.perform.proofs.AnswerLaws.{enter-changed, changed-then}
 use Rattle.perform.proofs.KeyLaws.{entered-visible, key-refused, key-accepted}
 use borrow.Author.Needs.{needs}
 use Rattle.perform.proofs.keys.serve_key.Statement.{statement}
@@ -20,10 +20,8 @@ decode-requires c κs = sound-parts (c .before .before .before .args .r .now) (c
 recorded-requires : tie.Need-recorded-requires
 recorded-requires c κs =
     let at-decode = c .before in
-    let known = at-decode .before .before .before in
-    let entry = known .before in
-    let ready = enter-ready (entry .args .r .now) (entry .args .area .now) (entry .args .p) (at-decode .decode .result) (entry .pre) (λ i. omega (arith, known .slice-known .given i)) (at-decode .decode .ensures) in
-    (omega (arith, ready .size, ready .port), ready .four)
+    let entry = at-decode .before .before .before .before in
+    (omega (arith, entry .pre .size, entry .pre .port), four-slots (at-decode .decode .result) _ (entry .args .r .now) (at-decode .decode .ensures))
 
 read-key-requires : tie.Need-read-key-requires
 read-key-requires c κs =
@@ -56,8 +54,7 @@ answer-requires c κs =
     let at-decode = at-recorded .before .before in
     let known = at-decode .before .before .before in
     let entry = known .before in
-    let ready = enter-ready (entry .args .r .now) (entry .args .area .now) (entry .args .p) (at-decode .decode .result) (entry .pre) (λ i. omega (arith, known .slice-known .given i)) (at-decode .decode .ensures) in
-    ready-changed _ _ _ (at-decode .decode .result) (at-with-code .with-code .result) ready (at-with-code .with-code .ensures .four ∙ at-recorded .recorded .ensures .four)
+    enter-changed (entry .args .r .now) (entry .args .area .now) (entry .args .p) (at-decode .decode .result) (at-with-code .with-code .result) (entry .pre) (λ i. omega (arith, known .slice-known .given i)) (at-decode .decode .ensures) (changed-then _ _ _ _ _ (at-recorded .recorded .ensures) (at-with-code .with-code .ensures))
 
 same-length : tie.Need-same-length
 same-length c = search needs
@@ -90,8 +87,7 @@ accept-requires c κs =
     let at-decode = at-recorded .before .before in
     let known = at-decode .before .before .before in
     let entry = known .before in
-    let ready = enter-ready (entry .args .r .now) (entry .args .area .now) (entry .args .p) (at-decode .decode .result) (entry .pre) (λ i. omega (arith, known .slice-known .given i)) (at-decode .decode .ensures) in
-    ready-changed _ _ _ (at-decode .decode .result) (c .with-code2 .result) ready (c .with-code2 .ensures .four ∙ at-recorded .recorded .ensures .four)
+    enter-changed (entry .args .r .now) (entry .args .area .now) (entry .args .p) (at-decode .decode .result) (c .with-code2 .result) (entry .pre) (λ i. omega (arith, known .slice-known .given i)) (at-decode .decode .ensures) (changed-then _ _ _ _ _ (at-recorded .recorded .ensures) (c .with-code2 .ensures))
 
 same-length-3 : tie.Need-same-length-3
 same-length-3 c = search needs

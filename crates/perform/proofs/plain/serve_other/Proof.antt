@@ -5,7 +5,8 @@ use Rattle.model.specs.Registers.{refused}
 use Rattle.record.specs.Meaning.{historyOf}
 use Rattle.store.specs.Record.{decode}
 use Rattle.store.proofs.SoundLaws.{sound-parts}
-use Rattle.perform.proofs.AnswerLaws.{enter-ready, ready-changed, changed-served}
+use Rattle.control.proofs.ChangeLaws.{four-slots}
+use Rattle.perform.proofs.AnswerLaws.{enter-changed, changed-served}
 use borrow.Author.Needs.{needs}
 use Rattle.perform.proofs.plain.serve_other.Statement.{statement}
 use Rattle.perform.proofs.plain.serve_other.Tie as tie
@@ -14,10 +15,7 @@ decode-requires : tie.Need-decode-requires
 decode-requires c κs = sound-parts (c .before .before .before .args .r .now) (c .before .before .before .pre .soundRecord) .size
 
 interrupt-requires : tie.Need-interrupt-requires
-interrupt-requires c κs =
-    let known = c .before .before .before in
-    let entry = known .before in
-    enter-ready (entry .args .r .now) (entry .args .area .now) (entry .args .p) (c .decode .result) (entry .pre) (λ i. omega (arith, known .slice-known .given i)) (c .decode .ensures) .four
+interrupt-requires c κs = four-slots (c .decode .result) _ (c .before .before .before .before .args .r .now) (c .decode .ensures)
 
 refused-requires : tie.Need-refused-requires
 refused-requires c κs = search needs
@@ -28,7 +26,7 @@ answer-requires c κs =
     let at-decode = at-interrupt .before in
     let known = at-decode .before .before .before in
     let entry = known .before in
-    ready-changed _ _ _ (at-decode .decode .result) (at-interrupt .interrupt .result) (enter-ready (entry .args .r .now) (entry .args .area .now) (entry .args .p) (at-decode .decode .result) (entry .pre) (λ i. omega (arith, known .slice-known .given i)) (at-decode .decode .ensures)) (at-interrupt .interrupt .ensures .four)
+    enter-changed (entry .args .r .now) (entry .args .area .now) (entry .args .p) (at-decode .decode .result) (at-interrupt .interrupt .result) (entry .pre) (λ i. omega (arith, known .slice-known .given i)) (at-decode .decode .ensures) (at-interrupt .interrupt .ensures)
 
 same-length : tie.Need-same-length
 same-length c = search needs

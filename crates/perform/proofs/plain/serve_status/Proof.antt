@@ -3,10 +3,18 @@ use native.Mathlib.Omega.{arith}
 use Rattle.record.specs.Meaning.{historyOf}
 use Rattle.store.specs.Record.{decode}
 use Rattle.store.proofs.SoundLaws.{sound-parts}
+use Rattle.perform.specs.Served.{Ready}
 use Rattle.perform.proofs.AnswerLaws.{enter-ready, status-refused, status-sent}
 use borrow.Author.Needs.{needs}
 use Rattle.perform.proofs.plain.serve_status.Statement.{statement}
 use Rattle.perform.proofs.plain.serve_status.Tie as tie
+
+-- the device can be answered with
+ready : (c : tie.After-decode) → let a = c .before .before .before .before .args in Ready (a .r .now) (a .area .now) (a .p) (c .decode .result)
+ready c =
+    let known = c .before .before .before in
+    let entry = known .before in
+    enter-ready (entry .args .r .now) (entry .args .area .now) (entry .args .p) (c .decode .result) (entry .pre) (λ i. omega (arith, known .slice-known .given i)) (c .decode .ensures)
 
 decode-requires : tie.Need-decode-requires
 decode-requires c κs = sound-parts (c .before .before .before .args .r .now) (c .before .before .before .pre .soundRecord) .size
@@ -15,11 +23,7 @@ refused-with-requires : tie.Need-refused-with-requires
 refused-with-requires c κs = search needs
 
 answer-requires : tie.Need-answer-requires
-answer-requires c κs =
-    let at-decode = c .before .before .before .before in
-    let known = at-decode .before .before .before in
-    let entry = known .before in
-    enter-ready (entry .args .r .now) (entry .args .area .now) (entry .args .p) (at-decode .decode .result) (entry .pre) (λ i. omega (arith, known .slice-known .given i)) (at-decode .decode .ensures)
+answer-requires c κs = ready (c .before .before .before .before)
 
 same-length : tie.Need-same-length
 same-length c = search needs
@@ -43,12 +47,7 @@ put-status-requires : tie.Need-put-status-requires
 put-status-requires c κs = search needs
 
 finish-requires : tie.Need-finish-requires
-finish-requires c κs =
-    let at-decode = c .before .before .before .before .before .before in
-    let known = at-decode .before .before .before in
-    let entry = known .before in
-    let ready = enter-ready (entry .args .r .now) (entry .args .area .now) (entry .args .p) (at-decode .decode .result) (entry .pre) (λ i. omega (arith, known .slice-known .given i)) (at-decode .decode .ensures) in
-    (ready .framed, ready .port, ready .four)
+finish-requires c κs = let ok = ready (c .before .before .before .before .before .before) in (ok .framed, ok .port, ok .four)
 
 same-length-3 : tie.Need-same-length-3
 same-length-3 c = search needs

@@ -5,21 +5,30 @@ use native.Mathlib.Omega.{arith}
 use Rattle.record.specs.Meaning.{asTransfer, asFill}
 use Rattle.command.specs.Meaning.{asDirection}
 use Rattle.store.proofs.SoundLaws.{sound-parts}
-use Rattle.perform.proofs.AnswerLaws.{enter-ready, ready-changed}
+use Rattle.control.proofs.ChangeLaws.{four-slots}
+use Rattle.perform.specs.Served.{Ready}
+use Rattle.perform.proofs.AnswerLaws.{enter-changed, changed-then}
 use Rattle.perform.proofs.TransferLaws.{data-refused, data-table, data-fill}
 use borrow.Author.Needs.{needs}
 use Rattle.perform.proofs.transfer.serve_data.Statement.{statement}
 use Rattle.perform.proofs.transfer.serve_data.Tie as tie
+
+-- the device with its fill stopped and the code stored can be answered with
+ready : (c : tie.After-with-code) → let a = c .before .before .before .before .before .before .before .before .args in Ready (a .r .now) (a .area .now) (a .p) (c .with-code .result)
+ready c =
+    let at-interrupt = c .before in
+    let at-decode = at-interrupt .before .before .before in
+    let known = at-decode .before .before .before in
+    let entry = known .before in
+    enter-changed (entry .args .r .now) (entry .args .area .now) (entry .args .p) (at-decode .decode .result) (c .with-code .result) (entry .pre) (λ i. omega (arith, known .slice-known .given i)) (at-decode .decode .ensures) (changed-then _ _ _ _ _ (at-interrupt .interrupt .ensures) (c .with-code .ensures))
 
 decode-requires : tie.Need-decode-requires
 decode-requires c κs = sound-parts (c .before .before .before .args .r .now) (c .before .before .before .pre .soundRecord) .size
 
 pending-of-requires : tie.Need-pending-of-requires
 pending-of-requires c κs =
-    let known = c .before .before .before in
-    let entry = known .before in
-    let ready = enter-ready (entry .args .r .now) (entry .args .area .now) (entry .args .p) (c .decode .result) (entry .pre) (λ i. omega (arith, known .slice-known .given i)) (c .decode .ensures) in
-    (ready .port, ready .four)
+    let entry = c .before .before .before .before in
+    (entry .pre .port, four-slots (c .decode .result) _ (entry .args .r .now) (c .decode .ensures))
 
 data-code-requires : tie.Need-data-code-requires
 data-code-requires c κs = search needs
@@ -27,9 +36,7 @@ data-code-requires c κs = search needs
 interrupt-requires : tie.Need-interrupt-requires
 interrupt-requires c κs =
     let at-decode = c .before .before in
-    let known = at-decode .before .before .before in
-    let entry = known .before in
-    enter-ready (entry .args .r .now) (entry .args .area .now) (entry .args .p) (at-decode .decode .result) (entry .pre) (λ i. omega (arith, known .slice-known .given i)) (at-decode .decode .ensures) .four
+    four-slots (at-decode .decode .result) _ (at-decode .before .before .before .before .args .r .now) (at-decode .decode .ensures)
 
 with-code-requires : tie.Need-with-code-requires
 with-code-requires c κs = search needs
@@ -38,14 +45,7 @@ refused-with-requires : tie.Need-refused-with-requires
 refused-with-requires c κs = search needs
 
 answer-requires : tie.Need-answer-requires
-answer-requires c κs =
-    let at-with-code = c .before .before .before .before in
-    let at-interrupt = at-with-code .before in
-    let at-decode = at-interrupt .before .before .before in
-    let known = at-decode .before .before .before in
-    let entry = known .before in
-    let ready = enter-ready (entry .args .r .now) (entry .args .area .now) (entry .args .p) (at-decode .decode .result) (entry .pre) (λ i. omega (arith, known .slice-known .given i)) (at-decode .decode .ensures) in
-    ready-changed _ _ _ (at-decode .decode .result) (at-with-code .with-code .result) ready (at-with-code .with-code .ensures .four ∙ at-interrupt .interrupt .ensures .four)
+answer-requires c κs = ready (c .before .before .before .before)
 
 same-length : tie.Need-same-length
 same-length c = search needs
@@ -77,14 +77,7 @@ enum-told : tie.Need-enum-told
 enum-told c = search needs
 
 send-table-requires : tie.Need-send-table-requires
-send-table-requires c κs =
-    let at-with-code = c .before .before .before .before .before .before in
-    let at-interrupt = at-with-code .before in
-    let at-decode = at-interrupt .before .before .before in
-    let known = at-decode .before .before .before in
-    let entry = known .before in
-    let ready = enter-ready (entry .args .r .now) (entry .args .area .now) (entry .args .p) (at-decode .decode .result) (entry .pre) (λ i. omega (arith, known .slice-known .given i)) (at-decode .decode .ensures) in
-    ready-changed _ _ _ (at-decode .decode .result) (at-with-code .with-code .result) ready (at-with-code .with-code .ensures .four ∙ at-interrupt .interrupt .ensures .four)
+send-table-requires c κs = ready (c .before .before .before .before .before .before)
 
 same-length-3 : tie.Need-same-length-3
 same-length-3 c = search needs
@@ -114,13 +107,7 @@ put-data-requires c κs = search needs
 begin-fill-requires : tie.Need-begin-fill-requires
 begin-fill-requires c κs =
     let at-put-data = c .before .before .before .before in
-    let at-with-code = at-put-data .before .before .before .before .before .before .before in
-    let at-interrupt = at-with-code .before in
-    let at-decode = at-interrupt .before .before .before in
-    let known = at-decode .before .before .before in
-    let entry = known .before in
-    let ready = enter-ready (entry .args .r .now) (entry .args .area .now) (entry .args .p) (at-decode .decode .result) (entry .pre) (λ i. omega (arith, known .slice-known .given i)) (at-decode .decode .ensures) in
-    let coded = ready-changed _ _ _ (at-decode .decode .result) (at-with-code .with-code .result) ready (at-with-code .with-code .ensures .four ∙ at-interrupt .interrupt .ensures .four) in
+    let coded = ready (at-put-data .before .before .before .before .before .before .before) in
     record { framed = coded .framed; size = rw (at-put-data .put-data .ensures, length-sets) (coded .size); port = coded .port; four = coded .four }
 
 same-length-5 : tie.Need-same-length-5
