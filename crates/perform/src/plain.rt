@@ -23,7 +23,7 @@ pub fn serve_status(r: &mut [u8], area: &mut [u8], p: usize)
         answer(r, area, p, d, reply::refused_with(0x0012));
         return;
     }
-    reply::put_status(area, 528 * p, d);
+    status::put_status(area, 528 * p, d);
     finish(r, p, d);
 }
 

@@ -50,7 +50,7 @@ fn send_table(r: &mut [u8], area: &mut [u8], p: usize, d: Device)
     ensures bytes { λ _. ⌜ now (r .exit) ≡ encode (withStage p answered (asContents d (historyOf (now (r .entry))))) ⌝ }
     ensures area { λ _. ⌜ now (area .exit) ≡ sets (now (area .entry)) (slotPlace p) (replyBytes (good 0 0) (part (now (r .entry)) 512 512)) ⌝ }
 {
-    reply::put_table(area, 528 * p, r);
+    status::put_table(area, 528 * p, r);
     finish(r, p, d);
 }
 

@@ -1,7 +1,7 @@
--- `reply::status::put_temperatures` meets its contract.
+-- `status::sector::put_temperatures` meets its contract.
 use borrow.Author.Needs.{needs}
-use Rattle.reply.proofs.status.put_temperatures.Statement.{statement}
-use Rattle.reply.proofs.status.put_temperatures.Tie as tie
+use Rattle.status.proofs.sector.put_temperatures.Statement.{statement}
+use Rattle.status.proofs.sector.put_temperatures.Tie as tie
 
 add-put-u8 : tie.Need-add-put-u8
 add-put-u8 c = search needs

@@ -1,12 +1,12 @@
--- `reply::status::put_status` meets its contract.
+-- `status::sector::put_status` meets its contract.
 use mathlib.Core.Path.{refl}
 use Rattle.model.specs.Registers.{good}
 use Rattle.model.specs.Status.{statusFields, statusSector}
 use Rattle.record.specs.Meaning.{asDevice}
 use Rattle.reply.proofs.ReplyLaws.{reply-form}
 use borrow.Author.Needs.{needs}
-use Rattle.reply.proofs.status.put_status.Statement.{statement}
-use Rattle.reply.proofs.status.put_status.Tie as tie
+use Rattle.status.proofs.sector.put_status.Statement.{statement}
+use Rattle.status.proofs.sector.put_status.Tie as tie
 
 good-requires : tie.Need-good-requires
 good-requires c κs = search needs

@@ -1,7 +1,7 @@
--- `reply::status::put_command` meets its contract.
+-- `status::sector::put_command` meets its contract.
 use borrow.Author.Needs.{needs}
-use Rattle.reply.proofs.status.put_command.Statement.{statement}
-use Rattle.reply.proofs.status.put_command.Tie as tie
+use Rattle.status.proofs.sector.put_command.Statement.{statement}
+use Rattle.status.proofs.sector.put_command.Tie as tie
 
 add-put-u16 : tie.Need-add-put-u16
 add-put-u16 c = search needs

@@ -1,11 +1,11 @@
 // The replies that carry the device's own data: the status sector, Table 11 of document 001, and the temperature table.
-use crate::registers::good;
-use crate::registers::put_registers;
-use crate::registers::put_reply;
 use record::Command;
 use record::Device;
 use record::Fill;
 use record::Thermal;
+use reply::good;
+use reply::put_registers;
+use reply::put_reply;
 use wire::copy_part;
 use wire::put_u8;
 use wire::put_u16;

@@ -1,12 +1,12 @@
--- `reply::status::put_table` meets its contract.
+-- `status::sector::put_table` meets its contract.
 use native.Mathlib.Omega.{arith}
 use Rattle.wire.specs.Parts.{part}
 use Rattle.wire.proofs.PartsLaws.{length-part}
 use Rattle.model.specs.Registers.{good}
 use Rattle.reply.proofs.ReplyLaws.{reply-stored}
 use borrow.Author.Needs.{needs}
-use Rattle.reply.proofs.status.put_table.Statement.{statement}
-use Rattle.reply.proofs.status.put_table.Tie as tie
+use Rattle.status.proofs.sector.put_table.Statement.{statement}
+use Rattle.status.proofs.sector.put_table.Tie as tie
 
 good-requires : tie.Need-good-requires
 good-requires c κs = search needs

@@ -1,8 +1,8 @@
--- `reply::status::put_head` meets its contract.
+-- `status::sector::put_head` meets its contract.
 use native.Mathlib.Nat.{add-zero}
 use borrow.Author.Needs.{needs}
-use Rattle.reply.proofs.status.put_head.Statement.{statement}
-use Rattle.reply.proofs.status.put_head.Tie as tie
+use Rattle.status.proofs.sector.put_head.Statement.{statement}
+use Rattle.status.proofs.sector.put_head.Tie as tie
 
 put-u16-requires : tie.Need-put-u16-requires
 put-u16-requires c κs = search needs
