@@ -74,15 +74,18 @@ work-passed r a disk e z =
     }
 
 -- serve's checks are work's, then those of the slot ..
-pub serve-first : (r : List ℕ) (p : ℕ) (a disk : List ℕ) (n : ℕ) → n ≡ firstFailed (workChecks r a disk) → (n ≡ 0 → ⊥) → n ≡ firstFailed (serveChecks r p a disk)
-serve-first r p a disk n e some =
-    sym (first-then 4 (workChecks r a disk) (goodPort p ∷ inStage isHeld r p ∷ []) (omega arith)
-    ∙ chosen-refusal n (firstFailed (workChecks r a disk)) (firstFailed (goodPort p ∷ inStage isHeld r p ∷ [])) (λ (k : ℕ). k) e some)
+module _ (r : List ℕ) (p : ℕ) (a disk : List ℕ) (n : ℕ) where
+  abbrev slotChecks : List Check
+  slotChecks = goodPort p ∷ inStage isHeld r p ∷ []
 
-pub serve-second : (r : List ℕ) (p : ℕ) (a disk : List ℕ) (n : ℕ) → n ≡ firstFailed (workChecks r a disk) → n ≡ 0 → firstFailed (goodPort p ∷ inStage isHeld r p ∷ []) ≡ firstFailed (serveChecks r p a disk)
-serve-second r p a disk n e z =
-    sym (first-then 4 (workChecks r a disk) (goodPort p ∷ inStage isHeld r p ∷ []) (omega arith)
-    ∙ chosen-done n (firstFailed (workChecks r a disk)) (firstFailed (goodPort p ∷ inStage isHeld r p ∷ [])) (firstFailed (workChecks r a disk)) e z)
+  both : firstFailed (serveChecks r p a disk) ≡ ifPassed (firstFailed (workChecks r a disk)) (firstFailed slotChecks) (firstFailed (workChecks r a disk))
+  both = first-then 4 (workChecks r a disk) slotChecks (omega arith)
+
+  pub serve-first : n ≡ firstFailed (workChecks r a disk) → (n ≡ 0 → ⊥) → n ≡ firstFailed (serveChecks r p a disk)
+  serve-first e some = sym (both ∙ chosen-refusal n (firstFailed (workChecks r a disk)) (firstFailed slotChecks) (λ (k : ℕ). k) e some)
+
+  pub serve-second : n ≡ firstFailed (workChecks r a disk) → n ≡ 0 → firstFailed slotChecks ≡ firstFailed (serveChecks r p a disk)
+  serve-second e z = sym (both ∙ chosen-done n (firstFailed (workChecks r a disk)) (firstFailed slotChecks) (firstFailed (workChecks r a disk)) e z)
 
 -- .. so where they pass, work's do
 pub serve-passed : (r : List ℕ) (p : ℕ) (a disk : List ℕ) {n : ℕ} → n ≡ firstFailed (serveChecks r p a disk) → n ≡ 0 → DiskPassed r a disk × (p < portCount)

@@ -28,7 +28,7 @@ decode-requires c κs = sound-parts (c .before .before .before .args .r .now) (c
 pending-of-requires : tie.Need-pending-of-requires
 pending-of-requires c κs =
     let entry = c .before .before .before .before in
-    (entry .pre .port, four-slots (c .decode .result) _ (entry .args .r .now) (c .decode .ensures))
+    (omega (arith, entry .pre .port), four-slots (c .decode .result) _ (entry .args .r .now) (c .decode .ensures))
 
 data-code-requires : tie.Need-data-code-requires
 data-code-requires c κs = search needs
