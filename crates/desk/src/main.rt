@@ -1,6 +1,8 @@
 // The desk program: records of one byte and a mailbox on standard input, served on a fresh disk of 64 sectors, a line for each.
 use libc::STDIN_FILENO;
 use libc::STDOUT_FILENO;
+use sizes::PRIVATE;
+use sizes::RECORD;
 use text::Arrival;
 ghost use mathlib.Core.Path.{_≡_};
 ghost use lib.ListN.{length};
@@ -49,8 +51,8 @@ fn all(device: &mut [u8], area: &mut [u8], disk: &mut [u8])
 }
 
 fn main() {
-    let mut device = [0u8; 1024];
-    let mut area = [0u8; 2624];
+    let mut device = [0u8; RECORD];
+    let mut area = [0u8; PRIVATE];
     let mut disk = [0u8; 32768];
     io::write_all(STDOUT_FILENO, b"n status error code written\n");
     service::sct_power_on(&mut device, &mut area, &disk, b"", 0);

@@ -1,4 +1,8 @@
 // The fill's sector in the private area: from the pattern of a key in a slot, or from the data of a slot.
+use sizes::FILL_AT;
+use sizes::MAILBOX;
+use sizes::REGISTERS;
+use sizes::SECTOR;
 ghost use mathlib.Core.Path.{_≡_};
 ghost use Prim.Native.Nat.{_<_};
 ghost use lib.ListN.{length};
@@ -9,12 +13,15 @@ ghost use Rattle.model.specs.Key.{patternSector};
 ghost use Rattle.store.specs.Areas.{fillPlace, privateSize};
 ghost use Rattle.store.specs.Store.{slotBytes};
 
+// "bytes 20-23" of the key sector, from the slot's first byte.
+const PATTERN_AT: usize = REGISTERS + 20;
+
 // "bytes 20-23 repeated 128 times", of the key in slot p.
 pub fn put_pattern(area: &mut [u8], p: usize)
     requires { ⌜ (length (now area) ≡ privateSize) × (p < portCount) ⌝ }
     ensures { λ _. ⌜ now (area .exit) ≡ sets (now (area .entry)) fillPlace (patternSector (dataOf (slotBytes p (now (area .entry))))) ⌝ }
 {
-    wire::repeat_within(area, 2112, 528 * p + 36, 128);
+    wire::repeat_within(area, FILL_AT, MAILBOX * p + PATTERN_AT, 128);
 }
 
 // The sector that slot p holds.
@@ -22,5 +29,5 @@ pub fn put_data(area: &mut [u8], p: usize)
     requires { ⌜ (length (now area) ≡ privateSize) × (p < portCount) ⌝ }
     ensures { λ _. ⌜ now (area .exit) ≡ sets (now (area .entry)) fillPlace (dataOf (slotBytes p (now (area .entry)))) ⌝ }
 {
-    wire::copy_within(area, 2112, 528 * p + 16, 512);
+    wire::copy_within(area, FILL_AT, MAILBOX * p + REGISTERS, SECTOR);
 }

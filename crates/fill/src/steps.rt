@@ -1,6 +1,9 @@
 // A running fill worked off: how many sectors a budget allows, the sectors written, and the device behind them.
 use record::Device;
 use record::Fill;
+use sizes::FILL_AT;
+use sizes::SECTOR;
+use sizes::SECTOR_U64;
 ghost use mathlib.Core.Path.{_≡_};
 ghost use mathlib.Core.Bool.{true};
 ghost use Prim.Native.Nat.{_+_, _*_, _-_, _≤_};
@@ -58,11 +61,11 @@ fn write_sectors(disk: &mut [u8], area: &[u8], next: u64, k: u32)
     requires { ⌜ (length (now area) ≡ privateSize) × (sectorSize * (next + k) ≤ length (now disk)) ⌝ }
     ensures { λ _. ⌜ now (disk .exit) ≡ sets (now (disk .entry)) (sectorSize * next) (repeated k (fillSectorOf (now (area .entry)))) ⌝ }
 {
-    let mut at = (512 * next) as usize;
+    let mut at = (SECTOR_U64 * next) as usize;
     let mut j = 0;
     while j < k {
-        wire::copy_part(disk, at, area, 2112, 512);
-        at += 512;
+        wire::copy_part(disk, at, area, FILL_AT, SECTOR);
+        at += SECTOR;
         j += 1;
     }
 }

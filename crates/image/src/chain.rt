@@ -1,5 +1,8 @@
 // The chain of entries, from the last trailer back.
 use crate::entry::entry_holds;
+use sizes::ENTRY;
+use sizes::IMAGE_LIMIT;
+use sizes::TRAILER;
 ghost use mathlib.Core.Path.{_≡_};
 ghost use Prim.Native.Nat.{_+_, _*_, _≤_};
 ghost use lib.ListN.{length};
@@ -16,7 +19,7 @@ fn chain_holds(native: u64, image: &&[u8], at: usize, number: u32) -> bool
     if number == 0 {
         return at == 0xFFFFFFFF;
     }
-    if at != 560 * (number as usize) - 16 {
+    if at != ENTRY * (number as usize) - TRAILER {
         return false;
     }
     if !entry_holds(native, *image, at, number) {
@@ -31,15 +34,15 @@ pub fn readable(image: &[u8], used: usize) -> bool
     requires { ⌜ used ≤ length (now image) ⌝ }
     ensures { λ r. ⌜ r ≡ readable (now (image .entry)) used ⌝ }
 {
-    if used % 560 != 0 {
+    if used % ENTRY != 0 {
         return false;
     }
-    if used > 65520 {
+    if used > IMAGE_LIMIT {
         return false;
     }
     if used == 0 {
         return true;
     }
-    let native = wire::u64_at(image, used - 560);
-    chain_holds(native, &image, used - 16, (used / 560) as u32)
+    let native = wire::u64_at(image, used - ENTRY);
+    chain_holds(native, &image, used - TRAILER, (used / ENTRY) as u32)
 }

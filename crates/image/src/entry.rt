@@ -1,4 +1,6 @@
 // One entry of the saved image, tested in place: its body, its trailer.
+use sizes::BODY;
+use sizes::NATIVE_LIMIT;
 ghost use mathlib.Core.Path.{_≡_};
 ghost use Prim.Native.Nat.{_+_, _*_, _≤_};
 ghost use lib.ListN.{length};
@@ -22,7 +24,7 @@ fn values_in_range(image: &[u8], at: usize) -> bool
     let reordering = wire::u16_at(image, at + 20);
     let interval = wire::u16_at(image, at + 22);
     let index = wire::u16_at(image, at + 64);
-    ((1 <= native) & (native <= 65536))
+    ((1 <= native) & (native <= NATIVE_LIMIT))
         & ((1 <= visible) & (visible <= native))
         & ((1 <= cache) & (cache <= 3))
         & ((1 <= reordering) & (reordering <= 2))
@@ -84,8 +86,8 @@ pub fn entry_holds(native: u64, image: &[u8], at: usize, number: u32) -> bool
     requires long { ⌜ entrySize * number ≤ length (now image) ⌝ }
     ensures { λ r. ⌜ r ≡ entryHolds native (now (image .entry)) number ⌝ }
 {
-    let body = body_holds(image, at - 544);
-    let named = wire::u64_at(image, at - 544);
+    let body = body_holds(image, at - BODY);
+    let named = wire::u64_at(image, at - BODY);
     let trailer = trailer_holds(image, at, number);
     body & (named == native) & trailer
 }

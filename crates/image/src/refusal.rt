@@ -1,5 +1,7 @@
 // The answers to an image: whether it can be read for this disk, and whether it can take one more entry.
 use crate::chain::readable;
+use sizes::ENTRIES;
+use sizes::ENTRY;
 ghost use mathlib.Core.Path.{_≡_};
 ghost use mathlib.Core.Bool.{true};
 ghost use Prim.Native.Nat.{_≤_};
@@ -15,7 +17,7 @@ fn same_disk(native: u64, image: &[u8], used: usize) -> bool
     if used == 0 {
         return true;
     }
-    let newest = wire::u64_at(image, used - 560);
+    let newest = wire::u64_at(image, used - ENTRY);
     newest == native
 }
 
@@ -40,7 +42,7 @@ fn has_room(image: &[u8], used: usize) -> bool
     requires { ⌜ used ≤ length (now image) ⌝ }
     ensures { λ r. ⌜ r ≡ hasRoom (now (image .entry)) used ⌝ }
 {
-    (used / 560 < 117) & (560 <= image.len() - used)
+    (used / ENTRY < ENTRIES) & (ENTRY <= image.len() - used)
 }
 
 // 0, or the number of the refusal: 2 length, 6 image, 7 other disk, 8 full.

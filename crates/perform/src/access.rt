@@ -3,6 +3,10 @@ use crate::answering::answer;
 use crate::answering::finish;
 use command::Direction;
 use record::Device;
+use sizes::MAILBOX;
+use sizes::REGISTERS;
+use sizes::SECTOR;
+use sizes::SECTOR_U64;
 ghost use mathlib.Core.Path.{_≡_};
 ghost use Prim.Native.Nat.{_+_, _*_, _≤_};
 ghost use lib.ListN.{length};
@@ -21,9 +25,15 @@ fn read_sector(r: &mut [u8], area: &mut [u8], disk: &[u8], p: usize, d: Device, 
     requires { ⌜ Ready (now r) (now area) p d × (sectorSize * lba + sectorSize ≤ length (now disk)) ⌝ }
     ensures { λ _. ⌜ Served p (decision (asDevice d (historyOf (now (r .entry)))) (good 0 0) (readLba lba)) (stagesOf (d .slots)) (now (area .entry)) (now (disk .entry)) (now (r .exit)) (now (area .exit)) (now (disk .entry)) ⌝ }
 {
-    let at = 528 * p;
+    let at = MAILBOX * p;
     reply::put_registers(area, at, reply::good(0, 0));
-    wire::copy_part(area, at + 16, disk, (512 * lba) as usize, 512);
+    wire::copy_part(
+        area,
+        at + REGISTERS,
+        disk,
+        (SECTOR_U64 * lba) as usize,
+        SECTOR,
+    );
     finish(r, p, d);
 }
 
@@ -32,7 +42,13 @@ fn write_sector(r: &mut [u8], area: &mut [u8], disk: &mut [u8], p: usize, d: Dev
     requires { ⌜ Ready (now r) (now area) p d × (sectorSize * lba + sectorSize ≤ length (now disk)) ⌝ }
     ensures { λ _. ⌜ Served p (decision (asDevice d (historyOf (now (r .entry)))) (good 0 0) (writeLba lba (dataOf (slotBytes p (now (area .entry)))))) (stagesOf (d .slots)) (now (area .entry)) (now (disk .entry)) (now (r .exit)) (now (area .exit)) (now (disk .exit)) ⌝ }
 {
-    wire::copy_part(disk, (512 * lba) as usize, area, 528 * p + 16, 512);
+    wire::copy_part(
+        disk,
+        (SECTOR_U64 * lba) as usize,
+        area,
+        MAILBOX * p + REGISTERS,
+        SECTOR,
+    );
     let e = control::with_flag_cleared(d);
     answer(r, area, p, e, reply::good(0, 0));
 }

@@ -2,6 +2,7 @@
 use record::Device;
 use record::Stage;
 use reply::Reply;
+use sizes::MAILBOX;
 ghost use mathlib.Core.Path.{_≡_};
 ghost use mathlib.Core.List.{[]};
 ghost use Prim.Native.Nat.{_+_, _<_};
@@ -34,7 +35,7 @@ pub fn answer(r: &mut [u8], area: &mut [u8], p: usize, d: Device, reply: Reply)
     requires { ⌜ Ready (now r) (now area) p d ⌝ }
     ensures { λ _. ⌜ ServedBeside p (decision (asDevice d (historyOf (now (r .entry)))) (asRegisters reply) nothing) (stagesOf (d .slots)) (now (area .entry)) (now (r .exit)) (now (area .exit)) ⌝ }
 {
-    reply::put_reply(area, 528 * p, reply);
+    reply::put_reply(area, MAILBOX * p, reply);
     finish(r, p, d);
 }
 
@@ -44,7 +45,7 @@ pub fn begin_fill(r: &mut [u8], area: &mut [u8], p: usize, d: Device, first: u64
     ensures bytes { λ _. ⌜ now (r .exit) ≡ encode (withStage p answered (withDevice (startFill first end (asDevice d (historyOf (now (r .entry))))) (asContents d (historyOf (now (r .entry)))))) ⌝ }
     ensures area { λ _. ⌜ now (area .exit) ≡ sets (now (area .entry)) (slotPlace p) (replyBytes (good 0 0) []) ⌝ }
 {
-    reply::put_reply(area, 528 * p, reply::good(0, 0));
+    reply::put_reply(area, MAILBOX * p, reply::good(0, 0));
     let e = control::start_fill(d, first, end);
     finish(r, p, e);
 }

@@ -10,6 +10,8 @@ use command::Action;
 use command::KeyRead;
 use record::Device;
 use record::Fill;
+use sizes::MAILBOX;
+use sizes::REGISTERS;
 ghost use mathlib.Core.Path.{_≡_};
 ghost use Prim.Native.Nat.{_+_, _≤_};
 ghost use lib.ListN.{length};
@@ -73,7 +75,7 @@ pub fn serve_key(r: &mut [u8], area: &mut [u8], p: usize)
     requires { ⌜ Entered (now r) (now area) p ⌝ }
     ensures { λ _. ⌜ ServedBeside p (decideKey p (dataOf (slotBytes p (now (area .entry)))) (interrupt (decode (now (r .entry)) .device))) (decode (now (r .entry)) .stages) (now (area .entry)) (now (r .exit)) (now (area .exit)) ⌝ }
 {
-    let at = 528 * p + 16;
+    let at = MAILBOX * p + REGISTERS;
     let d = record::decode(r);
     let e = recorded(area, at, d);
     let key = command::read_key(area, at, d.locked, d.visible);

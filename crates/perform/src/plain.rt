@@ -1,6 +1,7 @@
 // The status read, and requests that are none of the named ones.
 use crate::answering::answer;
 use crate::answering::finish;
+use sizes::MAILBOX;
 ghost use mathlib.Core.Path.{_≡_};
 ghost use mathlib.Core.Bool.{true};
 ghost use Prim.Native.Nat.{_<_};
@@ -23,7 +24,7 @@ pub fn serve_status(r: &mut [u8], area: &mut [u8], p: usize)
         answer(r, area, p, d, reply::refused_with(0x0012));
         return;
     }
-    status::put_status(area, 528 * p, d);
+    status::put_status(area, MAILBOX * p, d);
     finish(r, p, d);
 }
 

@@ -6,6 +6,7 @@ use command::Direction;
 use record::Device;
 use record::Fill;
 use record::Transfer;
+use sizes::MAILBOX;
 ghost use mathlib.Core.Path.{_≡_};
 ghost use Prim.Native.Nat.{_<_};
 ghost use lib.ListN.{length, getD};
@@ -50,7 +51,7 @@ fn send_table(r: &mut [u8], area: &mut [u8], p: usize, d: Device)
     ensures bytes { λ _. ⌜ now (r .exit) ≡ encode (withStage p answered (asContents d (historyOf (now (r .entry))))) ⌝ }
     ensures area { λ _. ⌜ now (area .exit) ≡ sets (now (area .entry)) (slotPlace p) (replyBytes (good 0 0) (part (now (r .entry)) 512 512)) ⌝ }
 {
-    status::put_table(area, 528 * p, r);
+    status::put_table(area, MAILBOX * p, r);
     finish(r, p, d);
 }
 

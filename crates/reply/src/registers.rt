@@ -1,4 +1,6 @@
 // A reply: its registers, and the bytes that it is in the slot.
+use sizes::REGISTERS;
+use sizes::SECTOR;
 use wire::put_u8;
 use wire::zero_part;
 ghost use mathlib.Core.Path.{_≡_};
@@ -73,5 +75,5 @@ pub fn put_reply(area: &mut [u8], at: usize, r: Reply)
     ensures { λ _. ⌜ now (area .exit) ≡ sets (now (area .entry)) at (replyBytes (asRegisters r) []) ⌝ }
 {
     put_registers(area, at, r);
-    zero_part(area, at + 16, 512);
+    zero_part(area, at + REGISTERS, SECTOR);
 }

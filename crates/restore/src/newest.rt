@@ -8,6 +8,7 @@ use record::Slot;
 use record::Stage;
 use record::Thermal;
 use record::Transfer;
+use sizes::ENTRY;
 ghost use mathlib.Core.Path.{_≡_};
 ghost use Prim.Native.Nat.{_+_, _≤_};
 ghost use lib.ListN.{length, replicate};
@@ -168,6 +169,6 @@ pub fn put_restored(r: &mut [u8], native: u64, image: &[u8], used: usize)
     if used == 0 {
         restore_blank(r, native);
     } else {
-        restore_entry(r, image, used - 560);
+        restore_entry(r, image, used - ENTRY);
     }
 }

@@ -1,6 +1,10 @@
 // A save: one entry, from the record's bytes.
 use image::TAG;
 use image::previous_place;
+use sizes::BODY;
+use sizes::ENTRY;
+use sizes::SECTOR;
+use sizes::TABLE_AT;
 ghost use mathlib.Core.Path.{_≡_};
 ghost use mathlib.Core.Bool.{true};
 ghost use Prim.Native.Nat.{_+_, _*_, _/_, _≤_, _<_};
@@ -78,6 +82,6 @@ pub fn put_entry(image: &mut [u8], used: usize, r: &[u8])
 {
     put_sizes(image, used, r);
     put_features(image, used, r);
-    wire::copy_part(image, used + 32, r, 512, 512);
-    put_trailer(image, used + 544, (used / 560) as u32 + 1);
+    wire::copy_part(image, used + 32, r, TABLE_AT, SECTOR);
+    put_trailer(image, used + BODY, (used / ENTRY) as u32 + 1);
 }

@@ -1,5 +1,8 @@
 // The checks of the steps, in the order of their numbers: 4, 2, 1, 5, 3.
 use record::Stage;
+use sizes::MAILBOX;
+use sizes::PRIVATE;
+use sizes::SECTOR_U64;
 ghost use mathlib.Core.Path.{_≡_};
 ghost use mathlib.Core.Bool.{true};
 ghost use mathlib.Core.List.{List, [], _∷_};
@@ -65,10 +68,10 @@ pub fn mailbox_refusal(
     if !soundness::sound(device) {
         return 4;
     }
-    if mailbox_len != 528 {
+    if mailbox_len != MAILBOX {
         return 2;
     }
-    if area_len != 2624 {
+    if area_len != PRIVATE {
         return 2;
     }
     slot_refusal(device, port, needed)
@@ -79,7 +82,7 @@ fn is_disk(device: &[u8], disk_len: usize) -> bool
     requires { ⌜ sound (now device) ≡ true ⌝ }
     ensures { λ r. ⌜ r ≡ eqb «disk_len» (sectorSize * decode (now (device .entry)) .device .native) ⌝ }
 {
-    disk_len as u64 == 512 * record::native_at(device)
+    disk_len as u64 == SECTOR_U64 * record::native_at(device)
 }
 
 // The checks of work.
@@ -89,7 +92,7 @@ pub fn work_refusal(device: &[u8], area_len: usize, disk_len: usize) -> u32
     if !soundness::sound(device) {
         return 4;
     }
-    if area_len != 2624 {
+    if area_len != PRIVATE {
         return 2;
     }
     if !is_disk(device, disk_len) {

@@ -1,4 +1,8 @@
 // Saved images: save and power-on.
+use sizes::NATIVE_LIMIT;
+use sizes::PRIVATE;
+use sizes::RECORD;
+use sizes::SECTOR;
 ghost use mathlib.Core.Path.{_≡_};
 ghost use mathlib.Core.List.{List};
 ghost use Prim.Native.Nat.{ℕ};
@@ -6,6 +10,8 @@ ghost use lib.ListN.{length};
 ghost use Rattle.wire.specs.Choice.{firstFailed};
 ghost use Rattle.model.specs.Image.{wholeSectors};
 ghost use Rattle.store.specs.Entries.{saveChecks, saveBytes, powerOnChecks, powerOnBytes};
+
+const MOST_SECTORS: usize = NATIVE_LIMIT as usize;
 
 // The checks of a save.
 fn save_refusal(device: &[u8], image: &[u8], used: usize) -> u32
@@ -36,7 +42,7 @@ pub extern "C" fn sct_save(device: &[u8], image: &mut [u8], used: u64) -> u32
 fn is_whole(disk_len: usize) -> bool
     ensures { λ r. ⌜ r ≡ wholeSectors «disk_len» ⌝ }
 {
-    (disk_len % 512 == 0) & ((1 <= disk_len / 512) & (disk_len / 512 <= 65536))
+    (disk_len % SECTOR == 0) & ((1 <= disk_len / SECTOR) & (disk_len / SECTOR <= MOST_SECTORS))
 }
 
 // The checks of power-on. They see the sizes of record, private area and disk, not their bytes.
@@ -49,16 +55,16 @@ fn power_on_refusal(
 ) -> u32
     ensures { λ n. ⌜ ((r a sectors : List ℕ) → length r ≡ «device_len» → length a ≡ «area_len» → length sectors ≡ «disk_len» → n ≡ firstFailed (powerOnChecks r a sectors (now (image .entry)) used)) ⌝ }
 {
-    if device_len != 1024 {
+    if device_len != RECORD {
         return 2;
     }
-    if area_len != 2624 {
+    if area_len != PRIVATE {
         return 2;
     }
     if !is_whole(disk_len) {
         return 2;
     }
-    image::read_refusal((disk_len / 512) as u64, image, used)
+    image::read_refusal((disk_len / SECTOR) as u64, image, used)
 }
 
 // "Power-on from length 0 ..; otherwise the newest entry"; "private area all zeros"
@@ -79,7 +85,7 @@ pub extern "C" fn sct_power_on(
     if refusal != 0 {
         return refusal;
     }
-    wire::zero_part(area, 0, 2624);
-    restore::put_restored(device, (disk.len() / 512) as u64, image, at);
+    wire::zero_part(area, 0, PRIVATE);
+    restore::put_restored(device, (disk.len() / SECTOR) as u64, image, at);
     0
 }

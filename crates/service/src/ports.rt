@@ -2,6 +2,7 @@
 use crate::checks::mailbox_refusal;
 use crate::checks::serve_refusal;
 use record::Stage;
+use sizes::MAILBOX;
 ghost use mathlib.Core.Path.{_≡_};
 ghost use Rattle.store.specs.Entries.{takeBytes, serveBytes, giveBytes};
 
@@ -17,7 +18,7 @@ pub extern "C" fn sct_take(device: &mut [u8], port: u32, mailbox: &[u8], area: &
         return refusal;
     }
     let p = port as usize;
-    wire::copy_part(area, 528 * p, mailbox, 0, 528);
+    wire::copy_part(area, MAILBOX * p, mailbox, 0, MAILBOX);
     writing::put_stage(device, p, Stage::Held);
     0
 }
@@ -50,7 +51,7 @@ pub extern "C" fn sct_give(device: &mut [u8], port: u32, mailbox: &mut [u8], are
         return refusal;
     }
     let p = port as usize;
-    wire::copy_part(mailbox, 0, area, 528 * p, 528);
+    wire::copy_part(mailbox, 0, area, MAILBOX * p, MAILBOX);
     writing::put_stage(device, p, Stage::Empty);
     0
 }

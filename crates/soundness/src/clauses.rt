@@ -2,6 +2,7 @@
 use record::Fill;
 use record::Settings;
 use record::Transfer;
+use sizes::NATIVE_LIMIT;
 ghost use mathlib.Core.Path.{_≡_};
 ghost use mathlib.Core.Bool.{_&&_};
 ghost use mathlib.Core.List.{[], _∷_};
@@ -113,7 +114,7 @@ pub fn device_sound(r: &[u8]) -> bool
     let visible = wire::u64_at(r, 8);
     let settings = record::settings_at(r);
     let interval = settings.interval.state;
-    ((1 <= visible) & (visible <= native) & (native <= 65536))
+    ((1 <= visible) & (visible <= native) & (native <= NATIVE_LIMIT))
         & command_sound(r, visible)
         & settings_sound(settings)
         & ((wire::u16_at(r, 38) < interval) & (wire::u16_at(r, 544) < 478))

@@ -6,6 +6,9 @@ use record::Thermal;
 use reply::good;
 use reply::put_registers;
 use reply::put_reply;
+use sizes::REGISTERS;
+use sizes::SECTOR;
+use sizes::TABLE_AT;
 use wire::copy_part;
 use wire::put_u8;
 use wire::put_u16;
@@ -106,5 +109,5 @@ pub fn put_table(area: &mut [u8], at: usize, rec: &[u8])
     ensures { λ _. ⌜ now (area .exit) ≡ sets (now (area .entry)) at (replyBytes (good 0 0) (part (now (rec .entry)) headSize sectorSize)) ⌝ }
 {
     put_registers(area, at, good(0, 0));
-    copy_part(area, at + 16, rec, 512, 512);
+    copy_part(area, at + REGISTERS, rec, TABLE_AT, SECTOR);
 }
