@@ -13,6 +13,7 @@ pub use last::with_pending;
 pub use owner::set_lock;
 pub use owner::set_visible;
 pub use settings::feature;
+pub use settings::is_interval;
 pub use settings::set_feature;
 pub use settings::set_timer;
 pub use settings::timer;

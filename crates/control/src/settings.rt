@@ -74,7 +74,8 @@ fn is_cache(name: FeatureName) -> bool
     }
 }
 
-fn is_interval(name: FeatureName) -> bool
+// Whether a feature is number 3, the log interval.
+pub fn is_interval(name: FeatureName) -> bool
     ensures { λ r. ⌜ r ≡ isInterval (asFeatureName name) ⌝ }
 {
     match name {

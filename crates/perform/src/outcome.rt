@@ -15,19 +15,7 @@ ghost use Rattle.model.specs.Decide.{carryOut, feature};
 ghost use Rattle.record.specs.Meaning.{asFill, asSettings};
 ghost use Rattle.command.specs.Meaning.{asFeatureName};
 ghost use Rattle.reply.specs.Meaning.{asRegisters};
-ghost use Rattle.control.specs.Change.{isInterval};
 ghost use Rattle.perform.specs.Served.{Carried, Replied, empties, begun};
-
-// Whether a feature is number 3, the log interval.
-fn is_interval(name: FeatureName) -> bool
-    ensures { λ r. ⌜ r ≡ isInterval (asFeatureName name) ⌝ }
-{
-    match name {
-        FeatureName::Cache => false,
-        FeatureName::Reordering => false,
-        FeatureName::Interval => true,
-    }
-}
 
 // "Any set of feature 3 empties the temperature history."
 pub fn empties(action: Action) -> bool
@@ -38,7 +26,7 @@ pub fn empties(action: Action) -> bool
         Action::FillSector(_, _) => false,
         Action::SetTimer(_, _) => false,
         Action::ReturnTimer(_) => false,
-        Action::SetFeature(name, _, _) => is_interval(name),
+        Action::SetFeature(name, _, _) => control::is_interval(name),
         Action::ReturnState(_) => false,
         Action::ReturnOption(_) => false,
         Action::SendTable => false,
