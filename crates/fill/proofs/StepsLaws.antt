@@ -4,7 +4,7 @@ use mathlib.Core.Bool.{Bool, true, false}
 use Prim.Native.Nat.{ℕ, _+_, _*_, _-_, _≤_, _<_, min}
 use native.Mathlib.Omega.{arith}
 use native.Mathlib.Decide.{decLt}
-use mathlib.Core.List.{List}
+use mathlib.Core.List.{List, _++_}
 use lib.ListN.{length}
 use lib.Seq.{sets}
 use lib.Dec.{eqb}
@@ -12,6 +12,7 @@ use borrow.Author.Tests.{eq-eqb, ne-eqb, eqb-true, eqb-false}
 use Rattle.wire.specs.Choice.{if_then_else_}
 use Rattle.wire.specs.Bytes.{Bytes}
 use Rattle.wire.specs.Parts.{part, repeated}
+use Rattle.wire.proofs.PartsLaws.{length-part, length-repeated, sets-front}
 use Rattle.wire.proofs.RunLaws.{repeat-more}
 use Rattle.model.specs.Sizes.{sectorSize}
 use Rattle.model.specs.Device.{Fill, idle, running, Device}
@@ -21,6 +22,7 @@ use Rattle.model.specs.Fill.{Volume, advanced, sectorStep, iterate, remaining, 
 use Rattle.model.proofs.WorkLaws.{steps-device, steps-disk}
 use Rattle.record.specs.declared.device as code
 use Rattle.record.specs.Meaning.{asFill, asDevice, asContents, historyOf}
+use Rattle.store.specs.Areas.{fillPlace, privateSize}
 use Rattle.store.specs.Record.{fillNext, Contents, decode, encode}
 use Rattle.store.specs.Sound.{sound}
 use Rattle.store.specs.Store.{fillSectorOf}
@@ -96,11 +98,15 @@ module _ (sector : List ℕ) (v : Volume) (whole : length sector ≡ sectorSize)
 
 -- ---- on the bytes
 
--- the sectors that a budget allows lie within the disk: "first ≤ next < end ≤ V"
-pub sectors-fit : (n : ℕ) (f : Fill) (visible native : ℕ) → FillValid visible f → visible ≤ native → fillNext f + workCount n f ≤ native
+-- the sectors that a budget allows lie within the visible disk: "first ≤ next < end ≤ V"
+pub sectors-fit : (n : ℕ) (f : Fill) (visible : ℕ) → FillValid visible f → fillNext f + workCount n f ≤ visible
 unfolding workCount
-sectors-fit n idle visible native v h = omega arith
-sectors-fit n (running first next end) visible native v h = omega (arith, v)
+sectors-fit n idle visible v = omega arith
+sectors-fit n (running first next end) visible v = omega (arith, v)
+
+sound-fit : (r : List ℕ) (n : ℕ) → Bytes r → sound r ≡ true → fillNext (decode r .device .command .fill) + workCount n (decode r .device .command .fill) ≤ decode r .device .visible
+sound-fit r n b s =
+    sectors-fit n (decode r .device .command .fill) (decode r .device .visible) (sound-valid r b s .device .commandValid .fillValid)
 
 module _ (r a disk : List ℕ) (n k : ℕ) (d e : code.Device.Device) (says : asContents d (historyOf r) ≡ decode r) (counted : k ≡ workCount n (asFill (d .command .fill))) where
   abbrev sector : List ℕ
@@ -109,12 +115,9 @@ module _ (r a disk : List ℕ) (n k : ℕ) (d e : code.Device.Device) (says : as
   same-fill : asFill (d .command .fill) ≡ decode r .device .command .fill
   same-fill = ap (λ (c : Contents). c .device .command .fill) says
 
-  pub work-fits : Bytes r → sound r ≡ true → length disk ≡ sectorSize * decode r .device .native
+  pub work-fits : Bytes r → sound r ≡ true → length disk ≡ sectorSize * decode r .device .visible
       → sectorSize * (fillNext (asFill (d .command .fill)) + workCount n (asFill (d .command .fill))) ≤ length disk
-  work-fits b s size =
-      let v = sound-valid r b s .device in
-      let h = sectors-fit n (decode r .device .command .fill) (decode r .device .visible) (decode r .device .native) (v .commandValid .fillValid) (v .sizes .1) in
-      rw same-fill (omega (arith, h, size))
+  work-fits b s size = let h = sound-fit r n b s in rw same-fill (omega (arith, h, size))
 
   pub worked-count : k ≡ workDone r a disk n .count
   worked-count = counted ∙ ap (workCount n) same-fill
@@ -130,3 +133,29 @@ module _ (r a disk : List ℕ) (n k : ℕ) (d e : code.Device.Device) (says : as
   worked-disk whole =
       let v : Volume = record { device = decode r .device; disk = disk } in
       (λ i. sets disk (sectorSize * fillNext (same-fill i)) (repeated (worked-count i) sector)) ∙ sym (work-sectors sector v whole n)
+
+-- ---- the hidden sectors
+
+-- THE LAW of the hidden sectors: work on the visible part, and the hidden bytes behind it, are work on the whole disk
+module _ (r a seen hidden : List ℕ) (n : ℕ) (whole : length a ≡ privateSize) where
+  abbrev part-of : List ℕ → Volume
+  part-of disk = record { device = decode r .device; disk = disk }
+
+  sector-whole : length (fillSectorOf a) ≡ sectorSize
+  sector-whole = length-part a fillPlace sectorSize (omega (arith, whole))
+
+  pub hidden-record : workDone r a seen n .recordArea ≡ workDone r a (seen ++ hidden) n .recordArea
+  hidden-record =
+      ap (λ (x : Device). encode (withDevice x (decode r)))
+      (work-device (fillSectorOf a) (part-of seen) sector-whole n ∙ sym (work-device (fillSectorOf a) (part-of (seen ++ hidden)) sector-whole n))
+
+  pub hidden-disk : Bytes r → sound r ≡ true → length seen ≡ sectorSize * decode r .device .visible
+      → workDone r a seen n .disk ++ hidden ≡ workDone r a (seen ++ hidden) n .disk
+  hidden-disk b s size =
+      let f = decode r .device .command .fill in
+      let vs = repeated (workCount n f) (fillSectorOf a) in
+      let h = sound-fit r n b s in
+      let long : length vs ≡ workCount n f * sectorSize = rw (length-repeated (workCount n f) (fillSectorOf a), sector-whole) in
+      ap (λ (l : List ℕ). l ++ hidden) (work-sectors (fillSectorOf a) (part-of seen) sector-whole n)
+      ∙ sym (sets-front vs seen hidden (sectorSize * fillNext f) (omega (arith, h, size, long)))
+      ∙ sym (work-sectors (fillSectorOf a) (part-of (seen ++ hidden)) sector-whole n)

@@ -88,7 +88,7 @@ fn moved_on(d: Device, k: u32) -> Device
 
 // "writes the next sectors of a running fill, as many as n and what is left allow, and reports how many it wrote": n is a budget.
 pub fn work(r: &mut [u8], area: &[u8], disk: &mut [u8], n: u32) -> u32
-    requires { ⌜ (sound (now r) ≡ true) × (length (now area) ≡ privateSize) × (length (now disk) ≡ sectorSize * decode (now r) .device .native) ⌝ }
+    requires { ⌜ (sound (now r) ≡ true) × (length (now area) ≡ privateSize) × (length (now disk) ≡ sectorSize * decode (now r) .device .visible) ⌝ }
     ensures count { λ k. ⌜ k ≡ workDone (now (r .entry)) (now (area .entry)) (now (disk .entry)) n .count ⌝ }
     ensures bytes { λ _. ⌜ now (r .exit) ≡ workDone (now (r .entry)) (now (area .entry)) (now (disk .entry)) n .recordArea ⌝ }
     ensures disk { λ _. ⌜ now (disk .exit) ≡ workDone (now (r .entry)) (now (area .entry)) (now (disk .entry)) n .disk ⌝ }

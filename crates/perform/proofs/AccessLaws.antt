@@ -9,7 +9,6 @@ use lib.Seq.{sets}
 use lib.Dec.{ltb}
 use borrow.Author.Tests.{ltb-true}
 use Rattle.wire.specs.Choice.{firstFailed, ifPassed}
-use Rattle.wire.specs.Bytes.{Bytes}
 use Rattle.wire.specs.Parts.{part}
 use Rattle.wire.proofs.ChoiceLaws.{passed-not, all-pass}
 use Rattle.wire.proofs.PartsLaws.{length-part}
@@ -23,9 +22,7 @@ use Rattle.model.proofs.RequestLaws.{interrupt-kept}
 use Rattle.store.specs.Areas.{slotPlace}
 use Rattle.store.specs.Record.{Stage, answered, Contents, decode, encode}
 use Rattle.store.specs.Store.{slotBytes}
-use Rattle.store.specs.Sound.{sound}
 use Rattle.store.specs.Entries.{withStage}
-use Rattle.store.proofs.SoundLaws.{sound-valid}
 use Rattle.record.specs.declared.device as code
 use Rattle.record.specs.Meaning.{asDevice, asContents, stagesOf, historyOf}
 use Rattle.reply.proofs.ReplyLaws.{reply-stored}
@@ -107,13 +104,12 @@ module _ (r a disk : List ℕ) (p : ℕ) (d e : code.Device.Device) (dir : Direc
     unfolding decideSector
     decided-done z = ap choice (sym z ∙ same-error)
 
-    -- an access that passes lies within the disk
-    pub access-fits : Bytes r → sound r ≡ true → length disk ≡ sectorSize * old .native → n ≡ 0 → sectorSize * lba + sectorSize ≤ length disk
-    access-fits bytes s size z =
-        let v = sound-valid r bytes s .device .sizes in
+    -- an access that passes lies within the visible disk
+    pub access-fits : length disk ≡ sectorSize * old .visible → n ≡ 0 → sectorSize * lba + sectorSize ≤ length disk
+    access-fits size z =
         let below = ltb-true lba (interrupt old .visible) (all-pass 16 (sectorChecks (interrupt old) count lba) (omega arith) (sym same-error ∙ z) .1 .1 .0) in
         let same = ap (λ (x : Device). x .visible) (interrupt-kept old) in
-        omega (arith, v, below, same, size)
+        omega (arith, below, same, size)
 
     module _ (newRecord b : List ℕ) where
       -- THE LAWS of an access: refused, and done

@@ -82,7 +82,7 @@ pub fn serve_sector(
     count: u16,
     lba: u64,
 )
-    requires { ⌜ Entered (now r) (now area) p × (length (now disk) ≡ sectorSize * decode (now r) .device .native) ⌝ }
+    requires { ⌜ Entered (now r) (now area) p × (length (now disk) ≡ sectorSize * decode (now r) .device .visible) ⌝ }
     ensures { λ _. ⌜ Served p (decideSector (asDirection dir) count lba (dataOf (slotBytes p (now (area .entry)))) (interrupt (decode (now (r .entry)) .device))) (decode (now (r .entry)) .stages) (now (area .entry)) (now (disk .entry)) (now (r .exit)) (now (area .exit)) (now (disk .exit)) ⌝ }
 {
     let d = record::decode(r);

@@ -182,13 +182,21 @@ pub fn native_at(r: &[u8]) -> u64
     wire::u64_at(r, 0)
 }
 
+// V, the visible size in sectors.
+pub fn visible_at(r: &[u8]) -> u64
+    requires { ⌜ length (now r) ≡ recordSize ⌝ }
+    ensures { λ n. ⌜ n ≡ decode (now (r .entry)) .device .visible ⌝ }
+{
+    wire::u64_at(r, 8)
+}
+
 // The device that the record's bytes say.
 pub fn decode(r: &[u8]) -> Device
     requires { ⌜ length (now r) ≡ recordSize ⌝ }
     ensures { λ res. ⌜ asContents res (historyOf (now (r .entry))) ≡ decode (now (r .entry)) ⌝ }
 {
     let native = native_at(r);
-    let visible = wire::u64_at(r, 8);
+    let visible = visible_at(r);
     let locked = flag_at(r, 16);
     let initialized = flag_at(r, 17);
     let command = command_at(r);

@@ -9,6 +9,7 @@ pub use codec::native_at;
 pub use codec::settings_at;
 pub use codec::stage_at;
 pub use codec::transfer_at;
+pub use codec::visible_at;
 pub use device::Command;
 pub use device::Device;
 pub use device::Feature;

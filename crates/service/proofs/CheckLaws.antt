@@ -24,6 +24,10 @@ use Rattle.store.proofs.StageLaws.{stage-stored}
 pub native-limit : (r : List ℕ) → Bytes r → sound r ≡ true → decode r .device .native ≤ nativeLimit
 native-limit r b s = sound-valid r b s .device .sizes .2
 
+-- "V ≤ N"
+pub visible-native : (r : List ℕ) → Bytes r → sound r ≡ true → decode r .device .visible ≤ decode r .device .native
+visible-native r b s = sound-valid r b s .device .sizes .1
+
 -- the stage of a slot, stored in a sound record
 pub sound-stage : (r : List ℕ) (p : ℕ) (s : Stage) → sound r ≡ true → p < portCount → put 1 r (slotAt p) (stageNumber s) ≡ encode (withStage p s (decode r))
 unfolding decode

@@ -1,3 +1,4 @@
 -- In reading order.
 pub mod CheckLaws
 pub mod StepLaws
+pub mod VisibleLaws

@@ -85,6 +85,14 @@ fn is_disk(device: &[u8], disk_len: usize) -> bool
     disk_len as u64 == SECTOR_U64 * record::native_at(device)
 }
 
+// The bytes of the visible disk.
+pub fn visible_len(device: &[u8]) -> usize
+    requires { ⌜ sound (now device) ≡ true ⌝ }
+    ensures { λ e. ⌜ e ≡ sectorSize * decode (now (device .entry)) .device .visible ⌝ }
+{
+    (SECTOR_U64 * record::visible_at(device)) as usize
+}
+
 // The checks of work.
 pub fn work_refusal(device: &[u8], area_len: usize, disk_len: usize) -> u32
     ensures { λ n. ⌜ ((a sectors : List ℕ) → length a ≡ «area_len» → length sectors ≡ «disk_len» → n ≡ firstFailed (workChecks (now (device .entry)) a sectors)) ⌝ }

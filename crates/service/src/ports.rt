@@ -1,6 +1,7 @@
 // The steps of a port: take, serve, give.
 use crate::checks::mailbox_refusal;
 use crate::checks::serve_refusal;
+use crate::checks::visible_len;
 use record::Stage;
 use sizes::MAILBOX;
 ghost use mathlib.Core.Path.{_≡_};
@@ -35,7 +36,8 @@ pub extern "C" fn sct_serve(device: &mut [u8], port: u32, area: &mut [u8], disk:
     if refusal != 0 {
         return refusal;
     }
-    perform::serve(device, area, disk, port as usize);
+    let visible = visible_len(device);
+    perform::serve(device, area, &mut disk[..visible], port as usize);
     0
 }
 

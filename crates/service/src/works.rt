@@ -1,4 +1,5 @@
 // The work step.
+use crate::checks::visible_len;
 use crate::checks::work_refusal;
 ghost use mathlib.Core.Path.{_≡_};
 ghost use Prim.Native.Nat.{_+_, _*_};
@@ -24,6 +25,7 @@ pub extern "C" fn sct_work(device: &mut [u8], area: &[u8], disk: &mut [u8], n: u
     if refusal != 0 {
         return result_of(refusal, 0);
     }
-    let count = fill::work(device, area, disk, n);
+    let visible = visible_len(device);
+    let count = fill::work(device, area, &mut disk[..visible], n);
     result_of(0, count)
 }

@@ -111,7 +111,7 @@ pub fn device_sound(r: &[u8]) -> bool
     ensures { λ res. ⌜ res ≡ deviceSound (decode (now (r .entry)) .device) ⌝ }
 {
     let native = record::native_at(r);
-    let visible = wire::u64_at(r, 8);
+    let visible = record::visible_at(r);
     let settings = record::settings_at(r);
     let interval = settings.interval.state;
     ((1 <= visible) & (visible <= native) & (native <= NATIVE_LIMIT))

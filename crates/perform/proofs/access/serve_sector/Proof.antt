@@ -57,10 +57,9 @@ move-sector-requires c κs =
     let at-interrupt = at-if1 .before in
     let at-sector-error = at-interrupt .before in
     let at-decode = at-sector-error .before in
-    let known = at-decode .before .before .before .before in
-    let entry = known .before in
+    let entry = at-decode .before .before .before .before .before in
     let a = entry .args in
-    (ready at-interrupt, access-fits (a .r .now) (a .area .now) (a .disk .now) (a .p) (at-decode .decode .result) (at-interrupt .interrupt .result) (asDirection (a .dir)) (a .count) (a .lba) (at-sector-error .sector-error .result) (at-decode .decode .ensures) (at-sector-error .sector-error .ensures) (at-interrupt .interrupt .ensures) (λ i. omega (arith, known .slice-known .given i)) (entry .pre .0 .soundRecord) (entry .pre .1) (at-if1 .if1 .left))
+    (ready at-interrupt, access-fits (a .r .now) (a .area .now) (a .disk .now) (a .p) (at-decode .decode .result) (at-interrupt .interrupt .result) (asDirection (a .dir)) (a .count) (a .lba) (at-sector-error .sector-error .result) (at-decode .decode .ensures) (at-sector-error .sector-error .ensures) (at-interrupt .interrupt .ensures) (entry .pre .1) (at-if1 .if1 .left))
 
 same-length-3 : tie.Need-same-length-3
 same-length-3 c = search needs

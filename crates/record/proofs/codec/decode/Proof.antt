@@ -9,8 +9,8 @@ use Rattle.record.proofs.codec.decode.Tie as tie
 native-at-requires : tie.Need-native-at-requires
 native-at-requires c κs = search needs
 
-u64-at-requires : tie.Need-u64-at-requires
-u64-at-requires c κs = search needs
+visible-at-requires : tie.Need-visible-at-requires
+visible-at-requires c κs = search needs
 
 flag-at-requires : tie.Need-flag-at-requires
 flag-at-requires c κs = search needs
@@ -50,14 +50,14 @@ returns c =
     let at-command-at = at-settings-at .before in
     let at-flag-at2 = at-command-at .before in
     let at-flag-at = at-flag-at2 .before in
-    let at-u64-at = at-flag-at .before in
-    let at-native-at = at-u64-at .before in
+    let at-visible-at = at-flag-at .before in
+    let at-native-at = at-visible-at .before in
     λ i.
     record {
       device =
           record {
             native = at-native-at .native-at .ensures i;
-            visible = at-u64-at .u64-at .ensures i;
+            visible = at-visible-at .visible-at .ensures i;
             locked = at-flag-at .flag-at .ensures i;
             initialized = at-flag-at2 .flag-at2 .ensures i;
             command =
@@ -79,7 +79,7 @@ decode-spec =
     tie.close
     (tie.spec
     native-at-requires
-    u64-at-requires
+    visible-at-requires
     flag-at-requires
     flag-at-requires-2
     command-at-requires

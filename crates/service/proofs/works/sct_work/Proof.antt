@@ -1,11 +1,28 @@
 -- `service::works::sct_work` meets its contract.
 use mathlib.Core.Path.{refl, ap, _∙_}
-use Rattle.service.proofs.CheckLaws.{work-passed}
+use native.Mathlib.Omega.{arith}
+use lib.ListN.{length-take}
+use Rattle.service.proofs.CheckLaws.{DiskPassed, work-passed}
 use Rattle.service.proofs.StepLaws.{work-refused, work-done}
+use Rattle.service.proofs.VisibleLaws.{Seen, seen-part, work-record, work-disk}
 use Rattle.service.specs.Result.{workResult}
 use borrow.Author.Needs.{needs}
 use Rattle.service.proofs.works.sct_work.Statement.{statement}
 use Rattle.service.proofs.works.sct_work.Tie as tie
+
+passed : (c : tie.Else1) → let a = c .before .before .before .before .before .before .args in DiskPassed (a .device .now) (a .area .now) (a .disk .now)
+passed c =
+    let at-work-refusal = c .before in
+    let a = at-work-refusal .before .before .before .before .before .args in
+    work-passed (a .device .now) (a .area .now) (a .disk .now) (at-work-refusal .work-refusal .ensures (a .area .now) (a .disk .now) refl refl) (c .if1 .left)
+
+-- the visible part of the disk
+seen : (c : tie.After-visible-len) → let a = c .before .before .before .before .before .before .before .before .args in Seen (a .device .now) (a .area .now) (a .disk .now) (c .visible-len .result)
+seen c =
+    let at-if1 = c .before .before in
+    let known = at-if1 .before .before .before .before .before in
+    let a = known .before .args in
+    seen-part (a .device .now) (a .area .now) (a .disk .now) (c .visible-len .result) (λ i. omega (arith, known .slice-known .given i)) (passed at-if1) (c .visible-len .ensures)
 
 work-refusal-requires : tie.Need-work-refusal-requires
 work-refusal-requires c κs = search needs
@@ -24,14 +41,17 @@ returns c =
     let a = entry .args in
     rw (work-refused (a .device .now) (a .area .now) (a .disk .now) (a .n) (at-work-refusal .work-refusal .result) (at-work-refusal .work-refusal .ensures (a .area .now) (a .disk .now) refl refl) (at-if1 .if1 .taken)) (c .result-of .ensures, (refl, refl))
 
+visible-len-requires : tie.Need-visible-len-requires
+visible-len-requires c κs = passed (c .before) .isSound
+
+slice-relend-prefix-work : tie.Need-slice-relend-prefix-work
+slice-relend-prefix-work c = let h = seen (c .before) .within in omega (arith, h)
+
+slice-aggregate-work : tie.Need-slice-aggregate-work
+slice-aggregate-work c = let h = seen (c .before .before) .within in rw length-take (omega (arith, h))
+
 work-requires : tie.Need-work-requires
-work-requires c κs =
-    let at-if1 = c .before .before in
-    let at-work-refusal = at-if1 .before in
-    let entry = at-work-refusal .before .before .before .before .before in
-    let a = entry .args in
-    let ok = work-passed (a .device .now) (a .area .now) (a .disk .now) (at-work-refusal .work-refusal .ensures (a .area .now) (a .disk .now) refl refl) (at-if1 .if1 .left) in
-    (ok .isSound, ok .areaSized, ok .diskSized)
+work-requires c κs = let s = seen (c .before .before) in (s .passed .isSound, s .passed .areaSized, s .size)
 
 result-of-requires-2 : tie.Need-result-of-requires-2
 result-of-requires-2 c κs = search needs
@@ -44,13 +64,21 @@ same-length-3 c = search needs
 
 returns-2 : tie.Need-returns-2
 returns-2 c =
-    let at-before = c .before .before .before .before in
-    let at-work = at-before .before in
-    let at-if1 = at-work .before .before .before in
+    let at-work = c .before .before .before .before .before in
+    let at-visible-len = at-work .before .before .before in
+    let at-if1 = at-visible-len .before .before in
     let at-work-refusal = at-if1 .before in
     let entry = at-work-refusal .before .before .before .before .before in
     let a = entry .args in
-    rw (work-done (a .device .now) (a .area .now) (a .disk .now) (a .n) (at-work-refusal .work-refusal .result) (at-work-refusal .work-refusal .ensures (a .area .now) (a .disk .now) refl refl) (at-if1 .if1 .left)) (c .result-of2 .ensures ∙ ap (workResult 0) (at-work .work .ensures .0), (at-work .work .ensures .1 .0, at-work .work .ensures .1 .1))
+    let e = at-visible-len .visible-len .result in
+    let s = seen at-visible-len in
+    rw (work-done (a .device .now) (a .area .now) (a .disk .now) (a .n) (at-work-refusal .work-refusal .result) (at-work-refusal .work-refusal .ensures (a .area .now) (a .disk .now) refl refl) (at-if1 .if1 .left)) (
+      c .result-of2 .ensures ∙ ap (workResult 0) (at-work .work .ensures .0),
+      (
+        work-record (a .device .now) (a .area .now) (a .disk .now) e (a .n) s _ (at-work .work .ensures .1 .0),
+        work-disk (a .device .now) (a .area .now) (a .disk .now) e (a .n) s _ (at-work .work .ensures .1 .1),
+      ),
+    )
 
 pub sct-work-spec : {M : Type 1} → statement M
 sct-work-spec =
@@ -60,6 +88,9 @@ sct-work-spec =
     result-of-requires
     same-length
     returns
+    visible-len-requires
+    slice-relend-prefix-work
+    slice-aggregate-work
     work-requires
     result-of-requires-2
     same-length-2

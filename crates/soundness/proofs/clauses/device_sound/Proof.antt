@@ -8,8 +8,8 @@ use Rattle.soundness.proofs.clauses.device_sound.Tie as tie
 native-at-requires : tie.Need-native-at-requires
 native-at-requires c κs = search needs
 
-u64-at-requires : tie.Need-u64-at-requires
-u64-at-requires c κs = search needs
+visible-at-requires : tie.Need-visible-at-requires
+visible-at-requires c κs = search needs
 
 settings-at-requires : tie.Need-settings-at-requires
 settings-at-requires c κs = search needs
@@ -33,17 +33,17 @@ returns c =
     let at-settings-sound = at-u16-at .before in
     let at-command-sound = at-settings-sound .before in
     let at-settings-at = at-command-sound .before in
-    let at-u64-at = at-settings-at .before in
-    let at-native-at = at-u64-at .before in
+    let at-visible-at = at-settings-at .before in
+    let at-native-at = at-visible-at .before in
     let entry = at-native-at .before .before in
-    device-tests (entry .args .r .now) (at-native-at .native-at .result) (at-u64-at .u64-at .result) (at-u16-at .u16-at .result) (c .u16-at2 .result) (at-settings-at .settings-at .result) (at-command-sound .command-sound .result) (at-settings-sound .settings-sound .result) (at-native-at .native-at .ensures) (at-u64-at .u64-at .ensures) (at-command-sound .command-sound .ensures) (at-settings-sound .settings-sound .ensures) (at-settings-at .settings-at .ensures) (at-u16-at .u16-at .ensures) (c .u16-at2 .ensures)
+    device-tests (entry .args .r .now) (at-native-at .native-at .result) (at-visible-at .visible-at .result) (at-u16-at .u16-at .result) (c .u16-at2 .result) (at-settings-at .settings-at .result) (at-command-sound .command-sound .result) (at-settings-sound .settings-sound .result) (at-native-at .native-at .ensures) (at-visible-at .visible-at .ensures) (at-command-sound .command-sound .ensures) (at-settings-sound .settings-sound .ensures) (at-settings-at .settings-at .ensures) (at-u16-at .u16-at .ensures) (c .u16-at2 .ensures)
 
 pub device-sound-spec : {M : Type 1} → statement M
 device-sound-spec =
     tie.close
     (tie.spec
     native-at-requires
-    u64-at-requires
+    visible-at-requires
     settings-at-requires
     command-sound-requires
     settings-sound-requires
