@@ -77,12 +77,12 @@ module _ (sector : List ℕ) (v : Volume) (whole : length sector ≡ sectorSize)
       go true t = rw (eqb-true k 0 t)
       go false t = let some = eqb-false k 0 t in let more : 0 < k = omega arith in steps-device first next end sector v e whole k more (omega arith)
 
-  steps-written : (f : Fill) (k : ℕ) → fill ≡ f → k ≤ remaining f → iterate k (sectorStep sector) v .disk ≡ sets (v .disk) (sectorSize * fillNext f) (repeated k sector)
+  steps-written : (f : Fill) (k : ℕ) → fill ≡ f → k ≤ remaining f → iterate k (sectorStep sector) v .disk .sectors ≡ sets (v .disk .sectors) (sectorSize * fillNext f) (repeated k sector)
   unfolding repeated
   steps-written idle k e h = let none : k ≡ 0 = omega arith in rw none
   steps-written (running first next end) k e h = go (decLt 0 k)
     where
-      go : Dec (0 < k) → iterate k (sectorStep sector) v .disk ≡ sets (v .disk) (sectorSize * next) (repeated k sector)
+      go : Dec (0 < k) → iterate k (sectorStep sector) v .disk .sectors ≡ sets (v .disk .sectors) (sectorSize * next) (repeated k sector)
       go (yes p) = steps-disk first next end sector v e whole k (omega arith)
       go (no p) = let none : k ≡ 0 = omega arith in rw none
 
@@ -92,7 +92,7 @@ module _ (sector : List ℕ) (v : Volume) (whole : length sector ≡ sectorSize)
   work-device n = steps-moved fill (workCount n fill) refl (count-left n fill)
 
   -- .. and of its disk
-  pub work-sectors : (n : ℕ) → work n sector v .disk ≡ sets (v .disk) (sectorSize * fillNext fill) (repeated (workCount n fill) sector)
+  pub work-sectors : (n : ℕ) → work n sector v .disk .sectors ≡ sets (v .disk .sectors) (sectorSize * fillNext fill) (repeated (workCount n fill) sector)
   unfolding work
   work-sectors n = steps-written fill (workCount n fill) refl (count-left n fill)
 
@@ -124,14 +124,14 @@ module _ (r a disk : List ℕ) (n k : ℕ) (d e : code.Device.Device) (says : as
 
   pub worked-record : length sector ≡ sectorSize → Changed (movedOn k) d e → encode (asContents e (historyOf r)) ≡ workDone r a disk n .recordArea
   worked-record whole change =
-      let v : Volume = record { device = decode r .device; disk = disk } in
+      let v : Volume = record { device = decode r .device; disk = record { sectors = disk } } in
       ap encode
       (changed-contents (movedOn k) d e (historyOf r) (decode r) says change
       ∙ ap (λ (x : Device). withDevice x (decode r)) (ap (λ (j : ℕ). movedOn j (decode r .device)) worked-count ∙ sym (work-device sector v whole n)))
 
   pub worked-disk : length sector ≡ sectorSize → sets disk (sectorSize * fillNext (asFill (d .command .fill))) (repeated k sector) ≡ workDone r a disk n .disk
   worked-disk whole =
-      let v : Volume = record { device = decode r .device; disk = disk } in
+      let v : Volume = record { device = decode r .device; disk = record { sectors = disk } } in
       (λ i. sets disk (sectorSize * fillNext (same-fill i)) (repeated (worked-count i) sector)) ∙ sym (work-sectors sector v whole n)
 
 -- ---- the hidden sectors
@@ -139,7 +139,7 @@ module _ (r a disk : List ℕ) (n k : ℕ) (d e : code.Device.Device) (says : as
 -- THE LAW of the hidden sectors: work on the visible part, and the hidden bytes behind it, are work on the whole disk
 module _ (r a seen hidden : List ℕ) (n : ℕ) (whole : length a ≡ privateSize) where
   abbrev part-of : List ℕ → Volume
-  part-of disk = record { device = decode r .device; disk = disk }
+  part-of disk = record { device = decode r .device; disk = record { sectors = disk } }
 
   sector-whole : length (fillSectorOf a) ≡ sectorSize
   sector-whole = length-part a fillPlace sectorSize (omega (arith, whole))

@@ -9,7 +9,7 @@ use Rattle.model.specs.Device.{idle, running, none, table, fillData, Dev
 use Rattle.model.specs.Registers.{Direction, read, write, Registers, good, refused, refusedWith}
 use Rattle.model.specs.Status.{driveState, currentLba}
 use Rattle.model.specs.Fill.{startFill, nothingPending}
-use Rattle.model.specs.Decide.{nothing, sendStatus, sendTemperatures, readLba, writeLba, beginFill, moves, sectorsOf}
+use Rattle.model.specs.Decide.{noWrite, oneSector, newFill, moves, sectorsOf}
 use Rattle.model.specs.Perform.{temperatureTable, spanOf}
 use Rattle.model.specs.Machine.{empty, request, reply, Machine}
 use Rattle.model.specs.Step.{powerOn, isEmpty, isRequest, isReply, step, firstAnswer}
@@ -63,16 +63,16 @@ pub fill-started : (first end : ℕ) (d : Device)
     → (startFill first end d .command .code ≡ 0xFFFF) × (startFill first end d .command .fill ≡ running first first end)
 fill-started first end d = (refl, refl)
 
--- ---- the sectors that an effect may write: its first, and the first behind them
+-- ---- the sectors that are written: the first, and the first behind them
 
-pub span-write : (lba : ℕ) (sector : List ℕ) → (spanOf (writeLba lba sector) .first ≡ lba) × (spanOf (writeLba lba sector) .end ≡ lba + 1)
+pub span-write : (lba : ℕ) (sector : List ℕ) → (spanOf (oneSector lba sector) .first ≡ lba) × (spanOf (oneSector lba sector) .end ≡ lba + 1)
 span-write lba sector = (refl, omega arith)
 
-pub span-fill : (first end : ℕ) (sector : List ℕ) → (spanOf (beginFill first end sector) .first ≡ first) × (spanOf (beginFill first end sector) .end ≡ end)
+pub span-fill : (first end : ℕ) (sector : List ℕ) → (spanOf (newFill first end sector) .first ≡ first) × (spanOf (newFill first end sector) .end ≡ end)
 span-fill first end sector = (refl, refl)
 
-pub span-none : (lba : ℕ) → (spanOf nothing .end ≡ 0) × (spanOf sendStatus .end ≡ 0) × (spanOf sendTemperatures .end ≡ 0) × (spanOf (readLba lba) .end ≡ 0)
-span-none lba = (refl, refl, refl, refl)
+pub span-none : (spanOf noWrite .first ≡ 0) × (spanOf noWrite .end ≡ 0)
+span-none = (refl, refl)
 
 -- ---- pending transfers
 

@@ -12,8 +12,8 @@ use Rattle.model.specs.Device.{Fill, idle, running, Device}
 use Rattle.model.specs.Fill.{nothingPending, stopFill, interrupt}
 use Rattle.model.specs.Owner.{setLock}
 use Rattle.model.specs.Owner.{setVisible as setVisibleDevice}
-use Rattle.model.specs.Machine.{Machine}
-use Rattle.model.specs.Step.{Step, lock, unlock, setVisible, Outcome, checks, onDevice, does, seenDone, step}
+use Rattle.model.specs.Machine.{Machine, machine}
+use Rattle.model.specs.Step.{lock, unlock, setVisible, Step, owner, Outcome, checks, does, seenDone, step}
 use Rattle.model.proofs.StepLaws.{step-done}
 use Rattle.model.proofs.RequestLaws.{interrupt-kept}
 use Rattle.model.proofs.RecordedLaws.{interrupt-recorded}
@@ -43,11 +43,11 @@ interrupt-code-idle d e = ap (λ (f : Fill). stopFill f d .command .code) e
 
 -- ---- "Locking, unlocking and setting V do the same as other requests"
 
-pub lock-quiet : (M : Machine) → Quiet (step lock M .state .device) × (step lock M .state .device .locked ≡ true)
+pub lock-quiet : (M : Machine) → Quiet (step (owner lock) M .state .device) × (step (owner lock) M .state .device .locked ≡ true)
 unfolding step setLock
 lock-quiet M = let q = interrupt-quiet (M .device) in (record { noFill = q .noFill; noTransfer = q .noTransfer }, refl)
 
-pub unlock-quiet : (M : Machine) → Quiet (step unlock M .state .device) × (step unlock M .state .device .locked ≡ false)
+pub unlock-quiet : (M : Machine) → Quiet (step (owner unlock) M .state .device) × (step (owner unlock) M .state .device .locked ≡ false)
 unfolding step setLock
 unlock-quiet M = let q = interrupt-quiet (M .device) in (record { noFill = q .noFill; noTransfer = q .noTransfer }, refl)
 
@@ -61,7 +61,7 @@ pub record LockKeeps (M N : Machine) : Type 0 where
   pub ports : N .ports ≡ M .ports
   pub disk : N .disk ≡ M .disk
 
-lock-kept : (b : Bool) (M : Machine) → LockKeeps M (onDevice (setLock b) M)
+lock-kept : (b : Bool) (M : Machine) → LockKeeps M (machine (setLock b (M .device)) (M .sector) (M .ports) (M .disk))
 unfolding setLock
 lock-kept b M =
     let same = interrupt-kept (M .device) in
@@ -76,7 +76,7 @@ lock-kept b M =
       disk = refl;
     }
 
-pub lock-keeps : (M : Machine) → LockKeeps M (step lock M .state) × LockKeeps M (step unlock M .state)
+pub lock-keeps : (M : Machine) → LockKeeps M (step (owner lock) M .state) × LockKeeps M (step (owner unlock) M .state)
 unfolding step
 lock-keeps M = (lock-kept true M, lock-kept false M)
 
@@ -91,29 +91,29 @@ pub record VisibleKeeps (M N : Machine) : Type 0 where
   pub disk : N .disk ≡ M .disk
 
 module _ (v : ℕ) (M : Machine) (some : 1 ≤ v) (most : v ≤ M .device .native) where
-  visible-set : step (setVisible v) M ≡ record { state = does (setVisible v) M; seen = seenDone (setVisible v) M }
-  visible-set = step-done (setVisible v) M (pass-all (checks (setVisible v) M) (between-within 1 v (M .device .native) some most, tt))
+  visible-set : step (owner (setVisible v)) M ≡ record { state = does (owner (setVisible v)) M; seen = seenDone (owner (setVisible v)) M }
+  visible-set = step-done (owner (setVisible v)) M (pass-all (checks (owner (setVisible v)) M) (between-within 1 v (M .device .native) some most, tt))
 
   -- a fill is not carried on after V changed
-  pub visible-quiet : Quiet (step (setVisible v) M .state .device)
+  pub visible-quiet : Quiet (step (owner (setVisible v)) M .state .device)
   unfolding setVisibleDevice
   visible-quiet = let q = interrupt-quiet (M .device) in rw visible-set (record { noFill = q .noFill; noTransfer = q .noTransfer })
 
-  pub visible-is : step (setVisible v) M .state .device .visible ≡ v
+  pub visible-is : step (owner (setVisible v)) M .state .device .visible ≡ v
   unfolding setVisibleDevice
   visible-is = rw visible-set
 
   -- "cleared .. by a changed V"; the same V keeps it
-  pub visible-changed : (v ≡ M .device .visible → ⊥) → step (setVisible v) M .state .device .initialized ≡ false
+  pub visible-changed : (v ≡ M .device .visible → ⊥) → step (owner (setVisible v)) M .state .device .initialized ≡ false
   unfolding setVisibleDevice
   visible-changed ne = rw (visible-set, ne-eqb v (M .device .visible) ne) (and-false (M .device .initialized))
 
-  pub visible-same : v ≡ M .device .visible → step (setVisible v) M .state .device .initialized ≡ M .device .initialized
+  pub visible-same : v ≡ M .device .visible → step (owner (setVisible v)) M .state .device .initialized ≡ M .device .initialized
   unfolding setVisibleDevice
   visible-same e = rw (visible-set, eq-eqb v (M .device .visible) e) (and-true (M .device .initialized))
 
   -- a new V leaves N, the lock, settings, temperatures, action, function, ports and disk
-  pub visible-keeps : VisibleKeeps M (step (setVisible v) M .state)
+  pub visible-keeps : VisibleKeeps M (step (owner (setVisible v)) M .state)
   unfolding setVisibleDevice
   visible-keeps =
       let same = interrupt-kept (M .device) in
@@ -134,23 +134,23 @@ module _ (v : ℕ) (M : Machine) (some : 1 ≤ v) (most : v ≤ M .device .nativ
 -- ---- "stops a running fill (code 0008h)"
 
 pub lock-code : (M : Machine) (first next end : ℕ) → M .device .command .fill ≡ running first next end
-    → (step lock M .state .device .command .code ≡ 0x0008) × (step unlock M .state .device .command .code ≡ 0x0008)
+    → (step (owner lock) M .state .device .command .code ≡ 0x0008) × (step (owner unlock) M .state .device .command .code ≡ 0x0008)
 unfolding step setLock
 lock-code M first next end e = (interrupt-code-running (M .device) first next end e, interrupt-code-running (M .device) first next end e)
 
 pub visible-code : (v : ℕ) (M : Machine) → 1 ≤ v → v ≤ M .device .native → (first next end : ℕ) → M .device .command .fill ≡ running first next end
-    → step (setVisible v) M .state .device .command .code ≡ 0x0008
+    → step (owner (setVisible v)) M .state .device .command .code ≡ 0x0008
 unfolding setVisibleDevice
 visible-code v M some most first next end e = rw (visible-set v M some most) (interrupt-code-running (M .device) first next end e)
 
 -- ---- with no fill the stored code stays
 
 pub lock-code-idle : (M : Machine) → M .device .command .fill ≡ idle
-    → (step lock M .state .device .command .code ≡ M .device .command .code) × (step unlock M .state .device .command .code ≡ M .device .command .code)
+    → (step (owner lock) M .state .device .command .code ≡ M .device .command .code) × (step (owner unlock) M .state .device .command .code ≡ M .device .command .code)
 unfolding step setLock
 lock-code-idle M e = (interrupt-code-idle (M .device) e, interrupt-code-idle (M .device) e)
 
 pub visible-code-idle : (v : ℕ) (M : Machine) → 1 ≤ v → v ≤ M .device .native → M .device .command .fill ≡ idle
-    → step (setVisible v) M .state .device .command .code ≡ M .device .command .code
+    → step (owner (setVisible v)) M .state .device .command .code ≡ M .device .command .code
 unfolding setVisibleDevice
 visible-code-idle v M some most e = rw (visible-set v M some most) (interrupt-code-idle (M .device) e)

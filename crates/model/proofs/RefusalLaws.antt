@@ -11,7 +11,7 @@ use Rattle.wire.specs.Choice.{if_then_else_, between, firstFailed}
 use Rattle.model.specs.Sizes.{portCount, mailboxSize, entrySize}
 use Rattle.model.specs.Image.{readable, sameDisk, hasRoom, wholeSectors, powerOnChecks}
 use Rattle.model.specs.Machine.{Port, Machine}
-use Rattle.model.specs.Step.{Step, take, serve, give, work, lock, unlock, setVisible, sample, save, powerOn, isEmpty, isRequest, isReply, Outcome, checks, step}
+use Rattle.model.specs.Step.{lock, unlock, setVisible, sample, Step, take, serve, give, work, owner, save, powerOn, isEmpty, isRequest, isReply, Outcome, checks, step}
 use Rattle.model.proofs.StepLaws.{answer-is}
 
 abbrev pub answerOf : Step → Machine → ℕ
@@ -49,19 +49,19 @@ module _ (p : ℕ) (m : List ℕ) (M : Machine) where
 pub work-answers : (n : ℕ) (M : Machine) → answerOf (work n) M ≡ 0
 work-answers n M = answer-is (work n) M
 
-pub lock-answers : (M : Machine) → (answerOf lock M ≡ 0) × (answerOf unlock M ≡ 0)
-lock-answers M = (answer-is lock M, answer-is unlock M)
+pub lock-answers : (M : Machine) → (answerOf (owner lock) M ≡ 0) × (answerOf (owner unlock) M ≡ 0)
+lock-answers M = (answer-is (owner lock) M, answer-is (owner unlock) M)
 
-pub sample-answers : (reading : ℕ) (M : Machine) → answerOf (sample reading) M ≡ 0
-sample-answers reading M = answer-is (sample reading) M
+pub sample-answers : (reading : ℕ) (M : Machine) → answerOf (owner (sample reading)) M ≡ 0
+sample-answers reading M = answer-is (owner (sample reading)) M
 
 -- ---- set V: "V asked is 0 or above N"
 
-pub visible-zero : (M : Machine) → answerOf (setVisible 0) M ≡ 5
-visible-zero M = answer-is (setVisible 0) M
+pub visible-zero : (M : Machine) → answerOf (owner (setVisible 0)) M ≡ 5
+visible-zero M = answer-is (owner (setVisible 0)) M
 
-pub visible-above : (v : ℕ) (M : Machine) → M .device .native < v → answerOf (setVisible v) M ≡ 5
-visible-above v M h = answer-is (setVisible v) M ∙ rw (le-leb 1 v (omega arith), lt-leb v (M .device .native) h)
+pub visible-above : (v : ℕ) (M : Machine) → M .device .native < v → answerOf (owner (setVisible v)) M ≡ 5
+visible-above v M h = answer-is (owner (setVisible v)) M ∙ rw (le-leb 1 v (omega arith), lt-leb v (M .device .native) h)
 
 -- ---- save and power-on
 

@@ -17,26 +17,24 @@ use Rattle.model.specs.Update.{withSettings, withThermal, withCode, with
 use Rattle.model.specs.Registers.{Direction, read, write, Request, statusRead, keySector, dataTransfer, sectorAccess, other, dataOf, requestOf, Registers, good, refused, refusedWith, replyBytes}
 use Rattle.model.specs.Key.{word, FeatureName, Action, fillPattern, fillSector, setTimer, returnTimer, setFeature, returnState, returnOption, sendTable, Verdict, accepted, rejected, judgeKey}
 use Rattle.model.specs.Status.{statusSector}
-use Rattle.model.specs.Fill.{Volume, nothingPending, stopFill, interrupt, startFill, writeSector}
-use Rattle.model.specs.Decide.{Effect, nothing, sendStatus, sendTemperatures, readLba, writeLba, beginFill, Decision, decision, decideStatus, timer, withTimer, feature, withFeature, afterFeature, carryOut, decideVerdict, decideKey, moves, sectorsOf, dataChecks, decideData, sectorChecks, decideSector, pendingFor, decideRequest, decide}
-use Rattle.model.specs.Perform.{temperatureTable, written, sent}
+use Rattle.model.specs.Disk.{Disk, sectorAt, withSector}
+use Rattle.model.specs.Fill.{nothingPending, stopFill, interrupt, startFill, writeSector}
+use Rattle.model.specs.Decide.{Serving, oneSector, newFill, status, temperatures, diskSector, nothing, writing, sending, Decision, decision, decideStatus, timer, withTimer, feature, withFeature, afterFeature, carryOut, decideVerdict, decideKey, moves, sectorsOf, dataChecks, decideData, sectorChecks, decideSector, pendingFor, decideRequest, decide}
+use Rattle.model.specs.Perform.{temperatureTable, volumeAfter, replyOf}
 use Rattle.model.specs.Machine.{Port, empty, request, reply, Machine, withPort, heldBytes}
-use Rattle.model.specs.Step.{Step, serve, Serving, Seen, Outcome, checks, answerOnly, served, serveDecided, step}
+use Rattle.model.specs.Step.{Step, serve, Seen, Outcome, checks, answerOnly, served, serveDecided, step}
 use Rattle.model.proofs.StepLaws.{step-done, port-same, port-other}
 
-abbrev pub serveOn : ℕ → Machine → Outcome Machine
-serveOn p M = step (serve (record { port = p })) M
+abbrev pub serveOn : Serving → Machine → Outcome Machine
+serveOn s M = step (serve s) M
 
--- The port p is served: it then holds this reply, the others what they held, and device and disk are these.
-pub record Serves (p : ℕ) (M : Machine) (answer : List ℕ) (d : Device) (disk : List ℕ) : Type 0 where
-  pub isSeen : serveOn p M .seen ≡ answerOnly done
-  pub replied : serveOn p M .state .ports p ≡ reply answer
-  pub others : (q : ℕ) → (q ≡ p → ⊥) → serveOn p M .state .ports q ≡ M .ports q
-  pub deviceAfter : serveOn p M .state .device ≡ d
-  pub diskAfter : serveOn p M .state .disk ≡ disk
-
-abbrev decidedVolume : Decision → Machine → Volume
-decidedVolume c M = record { device = c .device; disk = M .disk }
+-- A port is served: it then holds this reply, the others what they held, and device and disk are these.
+pub record Serves (s : Serving) (M : Machine) (answer : List ℕ) (d : Device) (disk : Disk) : Type 0 where
+  pub isSeen : serveOn s M .seen ≡ answerOnly done
+  pub replied : serveOn s M .state .ports (s .port) ≡ reply answer
+  pub others : (q : ℕ) → (q ≡ s .port → ⊥) → serveOn s M .state .ports q ≡ M .ports q
+  pub deviceAfter : serveOn s M .state .device ≡ d
+  pub diskAfter : serveOn s M .state .disk ≡ disk
 
 -- stopping a fill leaves all but the command's state
 stop-kept : (f : Fill) (ts : List Transfer) (d : Device) → withPending ts (stopFill f d) ≡ withCommand (withPending ts (stopFill f d) .command) d
@@ -50,15 +48,17 @@ interrupt-kept d = stop-kept (d .command .fill) _ d
 no-transfer : (dir : Direction) → moves dir none ≡ true → ⊥
 no-transfer dir e = let z : _≡_ {A = ℕ} 0 1 = cc in omega arith
 
-module _ (p : ℕ) (M : Machine) (m : List ℕ) (port : p < portCount) (held : M .ports p ≡ request m) where
+module _ (s : Serving) (M : Machine) (m : List ℕ) (port : s .port < portCount) (held : M .ports (s .port) ≡ request m) where
+  abbrev p : ℕ
+  p = s .port
+
   -- a held request is decided from the bytes taken, and performed
-  pub serves : {c : Decision} → decide p m (M .device) ≡ c
-      → Serves p M (replyBytes (c .registers) (sent (c .effect) (decidedVolume c M))) (written (c .effect) (decidedVolume c M) .device) (written (c .effect) (decidedVolume c M) .disk)
+  pub serves : {c : Decision} → decide s m (M .device) ≡ c
+      → Serves s M (replyOf c (volumeAfter c (M .disk))) (volumeAfter c (M .disk) .device) (volumeAfter c (M .disk) .disk)
   unfolding served serveDecided
   serves {c} e =
-      let s = serve (record { port = p }) in
-      let is = step-done s M (pass-all (checks s M) (lt-ltb p portCount port, (rw held, tt))) in
-      let same : decide p (heldBytes (M .ports p)) (M .device) ≡ c = ap (λ (x : Port). decide p (heldBytes x) (M .device)) held ∙ e in
+      let is = step-done (serve s) M (pass-all (checks (serve s) M) (lt-ltb p portCount port, (rw held, tt))) in
+      let same : decide s (heldBytes (M .ports p)) (M .device) ≡ c = ap (λ (x : Port). decide s (heldBytes x) (M .device)) held ∙ e in
       record {
         isSeen = rw is;
         replied = rw (is, same) (port-same p _ (M .ports));
@@ -67,22 +67,22 @@ module _ (p : ℕ) (M : Machine) (m : List ℕ) (port : p < portCount) (held : M
         diskAfter = rw (is, same);
       }
 
-  decided : (r : Request) → requestOf m ≡ r → decide p m (M .device) ≡ decideRequest r p m (M .device)
+  decided : (r : Request) → requestOf m ≡ r → decide s m (M .device) ≡ decideRequest r s m (M .device)
   unfolding decide
   decided r e = rw e
 
   -- ---- status
 
-  pub decided-status : requestOf m ≡ statusRead → M .device .locked ≡ false → decide p m (M .device) ≡ decision (M .device) (good 0 0) sendStatus
+  pub decided-status : requestOf m ≡ statusRead → M .device .locked ≡ false → decide s m (M .device) ≡ decision (M .device) (good 0 0) (sending status)
   decided-status e unlocked = decided statusRead e ∙ rw unlocked
 
   pub serves-status : requestOf m ≡ statusRead → M .device .locked ≡ false
-      → Serves p M (replyBytes (good 0 0) (statusSector (M .device))) (M .device) (M .disk)
+      → Serves s M (replyBytes (good 0 0) (statusSector (M .device))) (M .device) (M .disk)
   serves-status e unlocked = serves (decided-status e unlocked)
 
   -- "A refused status read under the lock answers 0012h and stores nothing."
   pub serves-status-locked : requestOf m ≡ statusRead → M .device .locked ≡ true
-      → Serves p M (replyBytes (refusedWith 0x0012) []) (M .device) (M .disk)
+      → Serves s M (replyBytes (refusedWith 0x0012) []) (M .device) (M .disk)
   serves-status-locked e locked = serves {c = decision (M .device) (refusedWith 0x0012) nothing} (decided statusRead e ∙ rw locked)
 
   -- ---- key sector
@@ -95,59 +95,59 @@ module _ (p : ℕ) (M : Machine) (m : List ℕ) (port : p < portCount) (held : M
   keyJudged = judgeKey (interrupt (M .device)) (dataOf m)
 
   decided-key : requestOf m ≡ keySector → (v : Verdict) → keyJudged ≡ v
-      → decide p m (M .device) ≡ decideVerdict v p (withKey (word (dataOf m) 0) (word (dataOf m) 1) (interrupt (M .device)))
+      → decide s m (M .device) ≡ decideVerdict v p (withKey (word (dataOf m) 0) (word (dataOf m) 1) (interrupt (M .device)))
   unfolding decideKey
   decided-key e v j = decided keySector e ∙ rw j
 
   -- "both are recorded from every key, accepted or not"; "A refused key stores its code."
   pub serves-key-refused : (code : ℕ) → requestOf m ≡ keySector → keyJudged ≡ rejected code
-      → Serves p M (replyBytes (refusedWith code) []) (withCode code keyed) (M .disk)
+      → Serves s M (replyBytes (refusedWith code) []) (withCode code keyed) (M .disk)
   serves-key-refused code e j = serves (decided-key e (rejected code) j)
 
-  pub decided-accepted : requestOf m ≡ keySector → (a : Action) → keyJudged ≡ accepted a → decide p m (M .device) ≡ carryOut a p keyed
+  pub decided-accepted : requestOf m ≡ keySector → (a : Action) → keyJudged ≡ accepted a → decide s m (M .device) ≡ carryOut a p keyed
   decided-accepted e a j = decided-key e (accepted a) j
 
   -- "Pattern fill starts at once": code FFFFh, next is first; no sector is written yet
   pub serves-pattern : (first end : ℕ) (sector : List ℕ) → requestOf m ≡ keySector → keyJudged ≡ accepted (fillPattern first end sector)
-      → Serves p M (replyBytes (good 0 0) []) (startFill first end keyed) (M .disk)
+      → Serves s M (replyBytes (good 0 0) []) (startFill first end keyed) (M .disk)
   unfolding carryOut
   serves-pattern first end sector e j = serves (decided-accepted e _ j)
 
   -- "LBA Mid is 1 if a sector is owed (fill function 2, table)"
   pub serves-fill-sector : (first end : ℕ) → requestOf m ≡ keySector → keyJudged ≡ accepted (fillSector first end)
-      → Serves p M (replyBytes (good 0 1) []) (withPending (set nothingPending p (fillData first end)) keyed) (M .disk)
+      → Serves s M (replyBytes (good 0 1) []) (withPending (set nothingPending p (fillData first end)) keyed) (M .disk)
   unfolding carryOut interrupt
   serves-fill-sector first end e j = serves (decided-accepted e _ j)
 
   pub serves-send-table : requestOf m ≡ keySector → keyJudged ≡ accepted sendTable
-      → Serves p M (replyBytes (good 0 1) []) (withPending (set nothingPending p table) keyed) (M .disk)
+      → Serves s M (replyBytes (good 0 1) []) (withPending (set nothingPending p table) keyed) (M .disk)
   unfolding carryOut interrupt
   serves-send-table e j = serves (decided-accepted e _ j)
 
   pub serves-set-timer : (t : Direction) (n : ℕ) → requestOf m ≡ keySector → keyJudged ≡ accepted (setTimer t n)
-      → Serves p M (replyBytes (good 0 0) []) (withSettings (withTimer t n (keyed .settings)) keyed) (M .disk)
+      → Serves s M (replyBytes (good 0 0) []) (withSettings (withTimer t n (keyed .settings)) keyed) (M .disk)
   unfolding carryOut
   serves-set-timer t n e j = serves (decided-accepted e _ j)
 
   -- "The value asked for by timers 2 and feature 2 or 3 (the mark, 0 or 1) stands in Sector Count (low) and LBA Low (high)"
   pub serves-return-timer : (t : Direction) → requestOf m ≡ keySector → keyJudged ≡ accepted (returnTimer t)
-      → Serves p M (replyBytes (good (timer t (keyed .settings)) 0) []) keyed (M .disk)
+      → Serves s M (replyBytes (good (timer t (keyed .settings)) 0) []) keyed (M .disk)
   unfolding carryOut
   serves-return-timer t e j = serves (decided-accepted e _ j)
 
   -- "Any set of feature 3 empties the temperature history."
   pub serves-set-feature : (f : FeatureName) (n : ℕ) (keep : Bool) → requestOf m ≡ keySector → keyJudged ≡ accepted (setFeature f n keep)
-      → Serves p M (replyBytes (good 0 0) []) (afterFeature f (withSettings (withFeature f (record { state = n; persistent = keep }) (keyed .settings)) keyed)) (M .disk)
+      → Serves s M (replyBytes (good 0 0) []) (afterFeature f (withSettings (withFeature f (record { state = n; persistent = keep }) (keyed .settings)) keyed)) (M .disk)
   unfolding carryOut
   serves-set-feature f n keep e j = serves (decided-accepted e _ j)
 
   pub serves-return-state : (f : FeatureName) → requestOf m ≡ keySector → keyJudged ≡ accepted (returnState f)
-      → Serves p M (replyBytes (good (feature f (keyed .settings) .state) 0) []) keyed (M .disk)
+      → Serves s M (replyBytes (good (feature f (keyed .settings) .state) 0) []) keyed (M .disk)
   unfolding carryOut
   serves-return-state f e j = serves (decided-accepted e _ j)
 
   pub serves-return-option : (f : FeatureName) → requestOf m ≡ keySector → keyJudged ≡ accepted (returnOption f)
-      → Serves p M (replyBytes (good (bit (feature f (keyed .settings) .persistent)) 0) []) keyed (M .disk)
+      → Serves s M (replyBytes (good (bit (feature f (keyed .settings) .persistent)) 0) []) keyed (M .disk)
   unfolding carryOut
   serves-return-option f e j = serves (decided-accepted e _ j)
 
@@ -158,12 +158,12 @@ module _ (p : ℕ) (M : Machine) (m : List ℕ) (port : p < portCount) (held : M
   dataCode dir count = firstFailed (dataChecks (M .device .locked) dir count (getD (M .device .command .pending) p none))
 
   pub decided-data : (dir : Direction) (count : ℕ) → requestOf m ≡ dataTransfer dir count
-      → decide p m (M .device) ≡ decideData dir count (getD (M .device .command .pending) p none) (dataOf m) (interrupt (M .device))
+      → decide s m (M .device) ≡ decideData dir count (getD (M .device .command .pending) p none) (dataOf m) (interrupt (M .device))
   decided-data dir count e = decided (dataTransfer dir count) e
 
   -- "Each becomes the stored code."
   pub serves-data-refused : (dir : Direction) (count code : ℕ) → requestOf m ≡ dataTransfer dir count → dataCode dir count ≡ suc code
-      → Serves p M (replyBytes (refusedWith (suc code)) []) (withCode (suc code) (interrupt (M .device))) (M .disk)
+      → Serves s M (replyBytes (refusedWith (suc code)) []) (withCode (suc code) (interrupt (M .device))) (M .disk)
   unfolding decideData
   serves-data-refused dir count code e j =
       serves {c = decision (withCode (suc code) (interrupt (M .device))) (refusedWith (suc code)) nothing}
@@ -190,27 +190,27 @@ module _ (p : ℕ) (M : Machine) (m : List ℕ) (port : p < portCount) (held : M
 
   -- "A table is sent as it stands at the E1h read."
   pub serves-table : requestOf m ≡ dataTransfer read 1 → M .device .locked ≡ false → getD (M .device .command .pending) p none ≡ table
-      → Serves p M (replyBytes (good 0 0) (temperatureTable (M .device))) (withCode 0x0000 (interrupt (M .device))) (M .disk)
+      → Serves s M (replyBytes (good 0 0) (temperatureTable (M .device))) (withCode 0x0000 (interrupt (M .device))) (M .disk)
   unfolding decideData
   serves-table e unlocked pends =
       rw (← ap temperatureTable (interrupt-kept (M .device)))
-      (serves {c = decision (withCode 0x0000 (interrupt (M .device))) (good 0 0) sendTemperatures}
+      (serves {c = decision (withCode 0x0000 (interrupt (M .device))) (good 0 0) (sending temperatures)}
       (decided-data read 1 e ∙ rw (pends, interrupt-kept (M .device), unlocked)))
 
   -- "A completed transfer stores .. FFFFh where it starts a fill."
   pub serves-fill-data : (first end : ℕ) → requestOf m ≡ dataTransfer write 1 → M .device .locked ≡ false
       → getD (M .device .command .pending) p none ≡ fillData first end
-      → Serves p M (replyBytes (good 0 0) []) (startFill first end (withCode 0x0000 (interrupt (M .device)))) (M .disk)
+      → Serves s M (replyBytes (good 0 0) []) (startFill first end (withCode 0x0000 (interrupt (M .device)))) (M .disk)
   unfolding decideData
   serves-fill-data first end e unlocked pends =
-      serves {c = decision (withCode 0x0000 (interrupt (M .device))) (good 0 0) (beginFill first end (dataOf m))}
+      serves {c = decision (withCode 0x0000 (interrupt (M .device))) (good 0 0) (writing (newFill first end (dataOf m)))}
       (decided-data write 1 e ∙ rw (pends, interrupt-kept (M .device), unlocked))
 
   -- Another port, or the other direction: 51h, 04h, 000Bh and a zero sector, and afterwards nothing is pending.
   pub serves-not-pending : (dir : Direction) (count : ℕ) → requestOf m ≡ dataTransfer dir count → M .device .locked ≡ false
       → moves dir (getD (M .device .command .pending) p none) ≡ false
-      → Serves p M (replyBytes (refusedWith 0x000B) []) (withCode 0x000B (interrupt (M .device))) (M .disk)
-      × (serveOn p M .state .device .command .pending ≡ nothingPending)
+      → Serves s M (replyBytes (refusedWith 0x000B) []) (withCode 0x000B (interrupt (M .device))) (M .disk)
+      × (serveOn s M .state .device .command .pending ≡ nothingPending)
   unfolding interrupt
   serves-not-pending dir count e unlocked pends =
       let s = serves-data-refused dir count 0x000A e (rw (unlocked, pends)) in
@@ -219,14 +219,14 @@ module _ (p : ℕ) (M : Machine) (m : List ℕ) (port : p < portCount) (held : M
   -- ---- one sector (24h, 34h)
 
   decided-sector : (dir : Direction) (count lba : ℕ) → requestOf m ≡ sectorAccess dir count lba
-      → decide p m (M .device) ≡ decideSector dir count lba (dataOf m) (interrupt (M .device))
+      → decide s m (M .device) ≡ decideSector dir count lba (dataOf m) (interrupt (M .device))
   decided-sector dir count lba e = decided (sectorAccess dir count lba) e
 
   pub serves-read : (lba : ℕ) → requestOf m ≡ sectorAccess read 1 lba → M .device .locked ≡ false → lba < M .device .visible
-      → Serves p M (replyBytes (good 0 0) (part (M .disk) (sectorSize * lba) sectorSize)) (interrupt (M .device)) (M .disk)
+      → Serves s M (replyBytes (good 0 0) (part (M .disk .sectors) (sectorSize * lba) sectorSize)) (interrupt (M .device)) (M .disk)
   unfolding decideSector
   serves-read lba e unlocked low =
-      serves {c = decision (interrupt (M .device)) (good 0 0) (readLba lba)}
+      serves {c = decision (interrupt (M .device)) (good 0 0) (sending (diskSector lba))}
       (decided-sector read 1 lba e ∙ rw (interrupt-kept (M .device), unlocked, lt-ltb lba (M .device .visible) low))
 
   -- "Locked: Error 04h, before both"; "Count (16 bits) other than 1: Error 04h. LBA at or above V: Error 10h."
@@ -244,15 +244,15 @@ module _ (p : ℕ) (M : Machine) (m : List ℕ) (port : p < portCount) (held : M
 
   -- the sector is written at its place, every other byte stays, and the flag is cleared
   pub serves-write : (lba : ℕ) → requestOf m ≡ sectorAccess write 1 lba → M .device .locked ≡ false → lba < M .device .visible
-      → Serves p M (replyBytes (good 0 0) []) (withInitialized false (interrupt (M .device))) (sets (M .disk) (sectorSize * lba) (dataOf m))
+      → Serves s M (replyBytes (good 0 0) []) (withInitialized false (interrupt (M .device))) (record { sectors = sets (M .disk .sectors) (sectorSize * lba) (dataOf m) })
   unfolding decideSector writeSector
   serves-write lba e unlocked low =
-      serves {c = decision (interrupt (M .device)) (good 0 0) (writeLba lba (dataOf m))}
+      serves {c = decision (interrupt (M .device)) (good 0 0) (writing (oneSector lba (dataOf m)))}
       (decided-sector write 1 lba e ∙ rw (interrupt-kept (M .device), unlocked, lt-ltb lba (M .device .visible) low))
 
   pub serves-sector-refused : (dir : Direction) (count lba error : ℕ) → requestOf m ≡ sectorAccess dir count lba
       → sectorError count lba ≡ suc error
-      → Serves p M (replyBytes (refused (suc error)) []) (interrupt (M .device)) (M .disk)
+      → Serves s M (replyBytes (refused (suc error)) []) (interrupt (M .device)) (M .disk)
   unfolding decideSector
   serves-sector-refused dir count lba error e j =
       serves {c = decision (interrupt (M .device)) (refused (suc error)) nothing}
@@ -260,5 +260,5 @@ module _ (p : ℕ) (M : Machine) (m : List ℕ) (port : p < portCount) (held : M
 
   -- ---- "All else": Error 04h, "stored code unchanged unless a fill was stopped"
 
-  pub serves-other : requestOf m ≡ other → Serves p M (replyBytes (refused 0x04) []) (interrupt (M .device)) (M .disk)
+  pub serves-other : requestOf m ≡ other → Serves s M (replyBytes (refused 0x04) []) (interrupt (M .device)) (M .disk)
   serves-other e = serves (decided other e)

@@ -17,7 +17,7 @@ use Rattle.model.proofs.PowerOnLaws.{KeptRules, kept-rules}
 use Rattle.model.proofs.ImageSteps.{power-on-leaves}
 
 -- N is a machine on the disk of M: it may have gone on since, but for its size
-module _ (M N : Machine) (image : List ℕ) (used : ℕ) (ok : MachineValid M) (disk : length (N .disk) ≡ length (M .disk)) (saves : step (save image used) M .seen .answer ≡ 0) where
+module _ (M N : Machine) (image : List ℕ) (used : ℕ) (ok : MachineValid M) (disk : length (N .disk .sectors) ≡ length (M .disk .sectors)) (saves : step (save image used) M .seen .answer ≡ 0) where
   abbrev saved : Seen
   saved = step (save image used) M .seen
 
@@ -27,11 +27,11 @@ module _ (M N : Machine) (image : List ℕ) (used : ℕ) (ok : MachineValid M) (
   saved-is : saved ≡ answeredImage 0 (savedImage (M .device) image used) (used + entrySize)
   saved-is = ap (λ (o : Outcome Machine). o .seen) (step-done (save image used) M passed)
 
-  size : length (N .disk) ≡ sectorSize * M .device .native
+  size : length (N .disk .sectors) ≡ sectorSize * M .device .native
   size = disk ∙ ok .diskValid .size
 
-  on-passed : firstFailed (powerOnChecks (N .disk) (saved .image) (saved .used)) ≡ 0
-  on-passed = rw saved-is (power-on-after-save (M .device) image used (ok .deviceValid) passed (N .disk) size)
+  on-passed : firstFailed (powerOnChecks (N .disk .sectors) (saved .image) (saved .used)) ≡ 0
+  on-passed = rw saved-is (power-on-after-save (M .device) image used (ok .deviceValid) passed (N .disk .sectors) size)
 
   pub power-on-answers : step (powerOn (saved .image) (saved .used)) N .seen .answer ≡ 0
   power-on-answers = answer-is (powerOn (saved .image) (saved .used)) N ∙ on-passed
@@ -43,7 +43,7 @@ module _ (M N : Machine) (image : List ℕ) (used : ℕ) (ok : MachineValid M) (
       (ap powerOnDevice
       (ap (λ (n : ℕ). restored n (savedImage (M .device) image used) (used + entrySize)) native-is ∙ restored-saved (M .device) image used (ok .deviceValid) passed))
     where
-      native-is : length (N .disk) / sectorSize ≡ M .device .native
+      native-is : length (N .disk .sectors) / sectorSize ≡ M .device .native
       native-is = rw size (omega arith)
 
   -- THEOREM: "A saved image read back gives what was saved, as the power-on rules keep it"

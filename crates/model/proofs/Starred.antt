@@ -24,7 +24,7 @@ starred-hold = refl
 
 -- "Start 64, Count 0: 0002h", from the mailbox through take, serve and give to the mailbox of the reply
 pub end-to-end : map (λ (o : Outcome Machine). o .seen)
-    (trace step (take 0 (keyMailbox (fillKey 64 0)) ∷ serve (record { port = 0 }) ∷ give 0 (zeros 528) ∷ []) (poweredOn (zeros (512 * 64)) [] 0))
+    (trace step (take 0 (keyMailbox (fillKey 64 0)) ∷ serve (record { port = 0 }) ∷ give 0 (zeros 528) ∷ []) (poweredOn (record { sectors = zeros (512 * 64) }) [] 0))
     ≡ answeredMailbox 0 (keyMailbox (fillKey 64 0))
     ∷ answerOnly 0
     ∷ answeredMailbox 0 (form 528 ((2, 1, 0x02) ∷ (12, 1, 0x51) ∷ (13, 1, 0x04) ∷ []))

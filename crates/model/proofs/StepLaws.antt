@@ -11,7 +11,7 @@ use Rattle.wire.specs.Choice.{if_then_else_, Check, firstFailed}
 use Rattle.wire.proofs.ChoiceLaws.{Numbered, all-pass, pass-all, first-bound}
 use Rattle.model.specs.Sizes.{portCount, mailboxSize, done, refusalOrder}
 use Rattle.model.specs.Machine.{Port, empty, request, reply, Machine, whileRunning, withPort, heldBytes}
-use Rattle.model.specs.Step.{Step, take, serve, give, work, lock, unlock, setVisible, sample, save, powerOn, Seen, Outcome, checks, unchanged, seenDone, answerOnly, answeredMailbox, does, attempt, step, trace}
+use Rattle.model.specs.Step.{Step, take, serve, give, work, owner, save, powerOn, Seen, Outcome, checks, unchanged, seenDone, answerOnly, answeredMailbox, does, attempt, step, trace}
 
 -- a step that no check refuses is done
 pub step-done : (x : Step) (M : Machine) → firstFailed (checks x M) ≡ 0 → step x M ≡ record { state = does x M; seen = seenDone x M }
@@ -29,10 +29,7 @@ seen-done (take p m) M = refl
 seen-done (serve s) M = refl
 seen-done (give p m) M = refl
 seen-done (work n) M = refl
-seen-done lock M = refl
-seen-done unlock M = refl
-seen-done (setVisible v) M = refl
-seen-done (sample reading) M = refl
+seen-done (owner x) M = refl
 seen-done (save image used) M = refl
 seen-done (powerOn image used) M = refl
 
@@ -41,10 +38,7 @@ unchanged-answer (take p m) n = refl
 unchanged-answer (serve s) n = refl
 unchanged-answer (give p m) n = refl
 unchanged-answer (work k) n = refl
-unchanged-answer lock n = refl
-unchanged-answer unlock n = refl
-unchanged-answer (setVisible v) n = refl
-unchanged-answer (sample reading) n = refl
+unchanged-answer (owner x) n = refl
 unchanged-answer (save image used) n = refl
 unchanged-answer (powerOn image used) n = refl
 
@@ -77,10 +71,7 @@ order-kept (take p m) M = refl
 order-kept (serve s) M = refl
 order-kept (give p m) M = refl
 order-kept (work n) M = refl
-order-kept lock M = refl
-order-kept unlock M = refl
-order-kept (setVisible v) M = refl
-order-kept (sample reading) M = refl
+order-kept (owner x) M = refl
 order-kept (save image used) M = refl
 order-kept (powerOn image used) M = refl
 
@@ -90,10 +81,7 @@ answers-numbered (take p m) M = (omega arith, omega arith, (omega arith, omega a
 answers-numbered (serve s) M = (omega arith, omega arith, (omega arith, omega arith, tt))
 answers-numbered (give p m) M = (omega arith, omega arith, (omega arith, omega arith, (omega arith, omega arith, tt)))
 answers-numbered (work n) M = tt
-answers-numbered lock M = tt
-answers-numbered unlock M = tt
-answers-numbered (setVisible v) M = (omega arith, omega arith, tt)
-answers-numbered (sample reading) M = tt
+answers-numbered (owner x) M = (omega arith, omega arith, tt)
 answers-numbered (save image used) M = (omega arith, omega arith, (omega arith, omega arith, (omega arith, omega arith, (omega arith, omega arith, tt))))
 answers-numbered (powerOn image used) M = (omega arith, omega arith, (omega arith, omega arith, (omega arith, omega arith, (omega arith, omega arith, tt))))
 
@@ -157,10 +145,7 @@ mailboxOf (take p m) = m
 mailboxOf (serve s) = []
 mailboxOf (give p m) = m
 mailboxOf (work n) = []
-mailboxOf lock = []
-mailboxOf unlock = []
-mailboxOf (setVisible v) = []
-mailboxOf (sample reading) = []
+mailboxOf (owner x) = []
 mailboxOf (save image used) = []
 mailboxOf (powerOn image used) = []
 
@@ -169,10 +154,7 @@ imageOf (take p m) = ([], 0)
 imageOf (serve s) = ([], 0)
 imageOf (give p m) = ([], 0)
 imageOf (work n) = ([], 0)
-imageOf lock = ([], 0)
-imageOf unlock = ([], 0)
-imageOf (setVisible v) = ([], 0)
-imageOf (sample reading) = ([], 0)
+imageOf (owner x) = ([], 0)
 imageOf (save image used) = (image, used)
 imageOf (powerOn image used) = (image, used)
 
@@ -188,10 +170,7 @@ unchanged-untouched (take p m) n = record { count = refl; mailbox = refl; image 
 unchanged-untouched (serve s) n = record { count = refl; mailbox = refl; image = refl; used = refl }
 unchanged-untouched (give p m) n = record { count = refl; mailbox = refl; image = refl; used = refl }
 unchanged-untouched (work k) n = record { count = refl; mailbox = refl; image = refl; used = refl }
-unchanged-untouched lock n = record { count = refl; mailbox = refl; image = refl; used = refl }
-unchanged-untouched unlock n = record { count = refl; mailbox = refl; image = refl; used = refl }
-unchanged-untouched (setVisible v) n = record { count = refl; mailbox = refl; image = refl; used = refl }
-unchanged-untouched (sample reading) n = record { count = refl; mailbox = refl; image = refl; used = refl }
+unchanged-untouched (owner x) n = record { count = refl; mailbox = refl; image = refl; used = refl }
 unchanged-untouched (save image used) n = record { count = refl; mailbox = refl; image = refl; used = refl }
 unchanged-untouched (powerOn image used) n = record { count = refl; mailbox = refl; image = refl; used = refl }
 
@@ -205,10 +184,7 @@ Silent (take p m) = Unit {0}
 Silent (serve s) = Unit {0}
 Silent (give p m) = ⊥
 Silent (work n) = ⊥
-Silent lock = Unit {0}
-Silent unlock = Unit {0}
-Silent (setVisible v) = Unit {0}
-Silent (sample reading) = Unit {0}
+Silent (owner x) = Unit {0}
 Silent (save image used) = ⊥
 Silent (powerOn image used) = Unit {0}
 
@@ -217,10 +193,7 @@ silent-seen (take p m) M s = refl
 silent-seen (serve x) M s = refl
 silent-seen (give p m) M s = absurd s
 silent-seen (work n) M s = absurd s
-silent-seen lock M s = refl
-silent-seen unlock M s = refl
-silent-seen (setVisible v) M s = refl
-silent-seen (sample reading) M s = refl
+silent-seen (owner x) M s = refl
 silent-seen (save image used) M s = absurd s
 silent-seen (powerOn image used) M s = refl
 

@@ -11,12 +11,10 @@ use native.Mathlib.Decide.{ℕ-discrete}
 use Rattle.wire.specs.Choice.{firstFailed}
 use Rattle.wire.proofs.ChoiceLaws.{all-pass}
 use Rattle.model.specs.Sizes.{portCount}
-use Rattle.model.specs.Registers.{replyBytes}
-use Rattle.model.specs.Fill.{Volume}
-use Rattle.model.specs.Decide.{Decision, decide}
-use Rattle.model.specs.Perform.{written, sent}
+use Rattle.model.specs.Decide.{Serving, Decision, decide}
+use Rattle.model.specs.Perform.{volumeAfter, replyOf}
 use Rattle.model.specs.Machine.{Port, empty, request, reply, Machine, withPort}
-use Rattle.model.specs.Step.{Step, take, serve, give, work, lock, unlock, setVisible, sample, save, powerOn, isEmpty, isReply, Outcome, checks, does, served, serveDecided, worked, step}
+use Rattle.model.specs.Step.{Step, take, serve, give, work, owner, save, powerOn, isEmpty, isReply, Outcome, checks, does, served, serveDecided, worked, step}
 use Rattle.model.specs.Valid.{Each}
 use Rattle.model.proofs.StepLaws.{step-done, step-refused, answer-is, answers-numbered, port-same, port-other}
 use Rattle.model.proofs.RequestLaws.{Serves, serves}
@@ -27,10 +25,7 @@ LeavesRequest f p (take q m) s = Unit {0}
 LeavesRequest f p (serve x) s = x .port ≡ p → ⊥
 LeavesRequest f p (give q m) s = Unit {0}
 LeavesRequest f p (work n) s = Unit {0}
-LeavesRequest f p lock s = Unit {0}
-LeavesRequest f p unlock s = Unit {0}
-LeavesRequest f p (setVisible v) s = Unit {0}
-LeavesRequest f p (sample reading) s = Unit {0}
+LeavesRequest f p (owner x) s = Unit {0}
 LeavesRequest f p (save image used) s = Unit {0}
 LeavesRequest f p (powerOn image used) s = f (powerOn image used) s .seen .answer ≡ 0 → ⊥
 
@@ -66,10 +61,7 @@ module _ (p : ℕ) (m : List ℕ) (M : Machine) (held : M .ports p ≡ request m
       let pass = all-pass 8 (checks (give q n) M) (answers-numbered (give q n) M) e in
       other-port p q empty m M held (done-elsewhere q isReply (pass .1 .1 .0) refl)
   does-leaves (work n) l e = held
-  does-leaves lock l e = held
-  does-leaves unlock l e = held
-  does-leaves (setVisible v) l e = held
-  does-leaves (sample reading) l e = held
+  does-leaves (owner x) l e = held
   does-leaves (save image used) l e = held
   does-leaves (powerOn image used) l e = absurd (l (answer-is (powerOn image used) M ∙ e))
 
@@ -86,13 +78,10 @@ requests-stay p m [] M held e = held
 requests-stay p m (x ∷ xs) M held e = requests-stay p m xs (step x M .state) (request-stays p m M held x (e .0)) (e .1)
 
 -- So it is served from those bytes, on the device and the disk of that moment, whatever mailboxes the steps between were fed.
-pub served-as-taken : (p : ℕ) (m : List ℕ) (xs : List Step) (M : Machine) → p < portCount → M .ports p ≡ request m → AllLeave step p xs M
-    → (c : Decision) → decide p m (after xs M .device) ≡ c
-    → Serves p (after xs M)
-    (replyBytes (c .registers) (sent (c .effect) (record { device = c .device; disk = after xs M .disk })))
-    (written (c .effect) (record { device = c .device; disk = after xs M .disk }) .device)
-    (written (c .effect) (record { device = c .device; disk = after xs M .disk }) .disk)
-served-as-taken p m xs M port held e c d = serves p (after xs M) m port (requests-stay p m xs M held e) d
+pub served-as-taken : (s : Serving) (m : List ℕ) (xs : List Step) (M : Machine) → s .port < portCount → M .ports (s .port) ≡ request m → AllLeave step (s .port) xs M
+    → (c : Decision) → decide s m (after xs M .device) ≡ c
+    → Serves s (after xs M) (replyOf c (volumeAfter c (after xs M .disk))) (volumeAfter c (after xs M .disk) .device) (volumeAfter c (after xs M .disk) .disk)
+served-as-taken s m xs M port held e c d = serves s (after xs M) m port (requests-stay (s .port) m xs M held e) d
 
 -- ---- mailboxes of other ports
 
@@ -102,10 +91,7 @@ OnOtherPort p (take q m) = q ≡ p → ⊥
 OnOtherPort p (serve s) = ⊥
 OnOtherPort p (give q m) = q ≡ p → ⊥
 OnOtherPort p (work n) = ⊥
-OnOtherPort p lock = ⊥
-OnOtherPort p unlock = ⊥
-OnOtherPort p (setVisible v) = ⊥
-OnOtherPort p (sample reading) = ⊥
+OnOtherPort p (owner x) = ⊥
 OnOtherPort p (save image used) = ⊥
 OnOtherPort p (powerOn image used) = ⊥
 
@@ -123,10 +109,7 @@ step-on-other p x M o = go (firstFailed (checks x M)) refl
     changed (serve s) o = absurd o
     changed (give q m) ne = record { device = refl; disk = refl; port = port-other q p empty (M .ports) (λ e. ne (sym e)) }
     changed (work n) o = absurd o
-    changed lock o = absurd o
-    changed unlock o = absurd o
-    changed (setVisible v) o = absurd o
-    changed (sample reading) o = absurd o
+    changed (owner x) o = absurd o
     changed (save image used) o = absurd o
     changed (powerOn image used) o = absurd o
 

@@ -17,7 +17,7 @@ use Rattle.model.specs.Device.{Thermal, Device}
 use Rattle.model.specs.Temperature.{signed, newMaximum, nextIndex, sampled}
 use Rattle.model.specs.Owner.{sample as sampleDevice}
 use Rattle.model.specs.Machine.{Machine, whileRunning}
-use Rattle.model.specs.Step.{Step, sample as sampleStep, Outcome, step}
+use Rattle.model.specs.Step.{sample as sampleStep, Step, owner, Outcome, step}
 
 -- ---- the maximum
 
@@ -114,7 +114,7 @@ module _ (reading : ℕ) (M : Machine) where
   before = M .device .thermal
 
   abbrev after : Machine
-  after = step (sampleStep reading) M .state
+  after = step (owner (sampleStep reading)) M .state
 
   pub step-temperatures : (after .device .thermal .now ≡ reading)
       × (after .device .thermal .cycleMaximum ≡ newMaximum reading (before .cycleMaximum))
@@ -150,7 +150,7 @@ pub record SampleKeeps (M N : Machine) : Type 0 where
   pub ports : N .ports ≡ M .ports
   pub disk : N .disk ≡ M .disk
 
-pub sample-keeps : (reading : ℕ) (M : Machine) → SampleKeeps M (step (sampleStep reading) M .state)
+pub sample-keeps : (reading : ℕ) (M : Machine) → SampleKeeps M (step (owner (sampleStep reading)) M .state)
 unfolding step sampleDevice
 sample-keeps reading M =
     record {

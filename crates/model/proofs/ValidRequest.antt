@@ -19,7 +19,7 @@ use Rattle.model.specs.Update.{withCode, withKey}
 use Rattle.model.specs.Registers.{Direction, read, write, Request, statusRead, keySector, dataTransfer, sectorAccess, other, dataOf, requestOf, Registers, good, refused, refusedWith}
 use Rattle.model.specs.Key.{word, FeatureName, writeCache, reordering, logInterval, highestState, Action, fillPattern, fillSector, setTimer, returnTimer, setFeature, returnState, returnOption, sendTable, Verdict, accepted, rejected, keyChecks, actionOf, verdict, judgeKey}
 use Rattle.model.specs.Fill.{interrupt}
-use Rattle.model.specs.Decide.{Effect, nothing, sendStatus, sendTemperatures, readLba, writeLba, beginFill, Decision, decision, decideStatus, timer, feature, carryOut, decideVerdict, decideKey, moves, dataChecks, transferEffect, decideData, sectorChecks, sectorEffect, decideSector, pendingFor, decideRequest, decide}
+use Rattle.model.specs.Decide.{Serving, Writing, noWrite, oneSector, newFill, Sending, noData, status, temperatures, diskSector, Effect, nothing, sending, Decision, decision, decideStatus, timer, feature, carryOut, decideVerdict, decideKey, moves, dataChecks, transferEffect, decideData, sectorChecks, sectorEffect, decideSector, pendingFor, decideRequest, decide}
 use Rattle.model.specs.Valid.{TransferValid, PendingValid, pendingCount, pendingLimit, StateValid, SettingsValid, Valid, Sized}
 use Rattle.model.proofs.KeyLaws.{key-codes, verdict-rejected, featureNumber, ActionValid, accepted-valid}
 use Rattle.model.proofs.FormatLaws.{RegistersFit}
@@ -28,13 +28,19 @@ use Rattle.model.proofs.OwnerLaws.{Quiet, interrupt-quiet}
 use Rattle.model.proofs.ValidDevice.{interrupt-valid, code-valid, key-valid, pending-valid, timer-set, feature-set}
 
 -- what an effect's values have to meet on the device that was decided
+abbrev pub WritingValid : Device → Writing → Type 0
+WritingValid d noWrite = Unit {0}
+WritingValid d (oneSector lba sector) = (lba < d .visible) × Sized sectorSize sector
+WritingValid d (newFill first end sector) = (first < end) × (end ≤ d .visible) × Sized sectorSize sector × Quiet d
+
+abbrev pub SendingValid : ℕ → Sending → Type 0
+SendingValid visible noData = Unit {0}
+SendingValid visible status = Unit {0}
+SendingValid visible temperatures = Unit {0}
+SendingValid visible (diskSector lba) = lba < visible
+
 abbrev pub EffectValid : Device → Effect → Type 0
-EffectValid d nothing = Unit {0}
-EffectValid d sendStatus = Unit {0}
-EffectValid d sendTemperatures = Unit {0}
-EffectValid d (readLba lba) = lba < d .visible
-EffectValid d (writeLba lba sector) = (lba < d .visible) × Sized sectorSize sector
-EffectValid d (beginFill first end sector) = (first < end) × (end ≤ d .visible) × Sized sectorSize sector × Quiet d
+EffectValid d e = WritingValid d (e .writes) × SendingValid (d .visible) (e .sends)
 
 -- A decision on the device d: in range; N and V stay; the fill is the one there was, or none.
 pub record DecisionValid (d : Device) (c : Decision) : Type 0 where
@@ -87,20 +93,20 @@ coded-valid d n r e v h f k =
 -- a decision with no effect, which leaves N, V and the fill
 still : (d e : Device) (r : Registers) → Valid e → RegistersFit r → (e .native ≡ d .native) × (e .visible ≡ d .visible)
     → e .command .fill ≡ d .command .fill → DecisionValid d (decision e r nothing)
-still d e r v f sizes fill = record { deviceValid = v; effectValid = tt; fits = f; sameSizes = sizes; sameFill = inr fill }
+still d e r v f sizes fill = record { deviceValid = v; effectValid = (tt, tt); fits = f; sameSizes = sizes; sameFill = inr fill }
 
 plain : RegistersFit (good 0 0)
 plain = good-fits 0 0 (omega arith) (omega arith)
 
-oneSector : RegistersFit (good 0 1)
-oneSector = good-fits 0 1 (omega arith) (omega arith)
+one-pending : RegistersFit (good 0 1)
+one-pending = good-fits 0 1 (omega arith) (omega arith)
 
 module _ (d : Device) (p : ℕ) (v : Valid d) (q : Quiet d) where
   carry-valid : (a : Action) → ActionValid (d .visible) a → DecisionValid d (carryOut a p d)
   unfolding carryOut
   carry-valid (fillPattern first end sector) k =
-      record { deviceValid = v; effectValid = (k .0, k .1, k .2, q); fits = plain; sameSizes = (refl, refl); sameFill = inr refl }
-  carry-valid (fillSector first end) k = still d _ _ (pending-valid p (fillData first end) d v q k) oneSector (refl, refl) refl
+      record { deviceValid = v; effectValid = ((k .0, k .1, k .2, q), tt); fits = plain; sameSizes = (refl, refl); sameFill = inr refl }
+  carry-valid (fillSector first end) k = still d _ _ (pending-valid p (fillData first end) d v q k) one-pending (refl, refl) refl
   carry-valid (setTimer t n) k = still d _ _ (timer-set t n d v (k .0) (k .1)) plain (refl, refl) refl
   carry-valid (returnTimer t) k = still d d _ v (good-fits _ 0 (timer-fits t (d .settings) (v .settingsValid)) (omega arith)) (refl, refl) refl
   carry-valid (setFeature writeCache n keep) k = still d _ _ (feature-set writeCache n keep d v (k .0) (k .1)) plain (refl, refl) refl
@@ -109,7 +115,7 @@ module _ (d : Device) (p : ℕ) (v : Valid d) (q : Quiet d) where
   carry-valid (returnState f) k = still d d _ v (good-fits _ 0 (state-fits f (d .settings) (v .settingsValid)) (omega arith)) (refl, refl) refl
   carry-valid (returnOption f) k =
       still d d _ v (good-fits _ 0 (omega (arith, bit-small (feature f (d .settings) .persistent))) (omega arith)) (refl, refl) refl
-  carry-valid sendTable k = still d _ _ (pending-valid p table d v q tt) oneSector (refl, refl) refl
+  carry-valid sendTable k = still d _ _ (pending-valid p table d v q tt) one-pending (refl, refl) refl
 
 module _ (d : Device) (p : ℕ) (v : Valid d) (q : Quiet d) where
   -- the code of a refused key is at most 12h
@@ -152,10 +158,10 @@ pending-for visible (t ∷ ts) (suc p) v = pending-for visible ts p (v .1)
 
 module _ (d : Device) (v : Valid d) (sector : List ℕ) (whole : Sized sectorSize sector) where
   transfer-effect : (t : Transfer) → TransferValid (d .visible) t → EffectValid (withCode 0x0000 (interrupt d)) (transferEffect t sector)
-  transfer-effect none k = tt
-  transfer-effect table k = tt
+  transfer-effect none k = (tt, tt)
+  transfer-effect table k = (tt, tt)
   transfer-effect (fillData first end) k =
-      (k .0, rw (sizes-kept d .1) (k .1), whole, record { noFill = interrupt-quiet d .noFill; noTransfer = interrupt-quiet d .noTransfer })
+      ((k .0, rw (sizes-kept d .1) (k .1), whole, record { noFill = interrupt-quiet d .noFill; noTransfer = interrupt-quiet d .noTransfer }), tt)
 
   data-decided : (dir : Direction) (count : ℕ) (t : Transfer) → TransferValid (d .visible) t → DecisionValid d (decideData dir count t sector (interrupt d))
   unfolding decideData
@@ -168,7 +174,7 @@ module _ (d : Device) (v : Valid d) (sector : List ℕ) (whole : Sized sectorSiz
           → DecisionValid d
           (ifPassed n (decision (withCode 0x0000 (interrupt d)) (good 0 0) (transferEffect t sector)) (decision (withCode n (interrupt d)) (refusedWith n) nothing))
       go zero h = coded-valid d 0x0000 (good 0 0) (transferEffect t sector) v (omega arith) plain (transfer-effect t k)
-      go (suc n) h = coded-valid d (suc n) (refusedWith (suc n)) nothing v (omega arith) (code-fits (suc n) (omega arith)) tt
+      go (suc n) h = coded-valid d (suc n) (refusedWith (suc n)) nothing v (omega arith) (code-fits (suc n) (omega arith)) (tt, tt)
 
   -- ---- one sector
 
@@ -183,8 +189,8 @@ module _ (d : Device) (v : Valid d) (sector : List ℕ) (whole : Sized sectorSiz
       within e = ltb-true lba (interrupt d .visible) (all-pass 0x10 cs (omega arith) e .1 .1 .0)
 
       effect-valid : (dir : Direction) → lba < interrupt d .visible → EffectValid (interrupt d) (sectorEffect dir lba sector)
-      effect-valid read h = h
-      effect-valid write h = (h, whole)
+      effect-valid read h = (tt, h)
+      effect-valid write h = ((h, whole), tt)
 
       go : (n : ℕ) → firstFailed cs ≡ n → n ≤ 0x10
           → DecisionValid d (ifPassed n (decision (interrupt d) (good 0 0) (sectorEffect dir lba sector)) (decision (interrupt d) (refused n) nothing))
@@ -199,7 +205,7 @@ module _ (d : Device) (v : Valid d) (sector : List ℕ) (whole : Sized sectorSiz
       go (suc n) e h =
           record {
             deviceValid = interrupt-valid d v;
-            effectValid = tt;
+            effectValid = (tt, tt);
             fits = refused-fits (suc n) (omega arith);
             sameSizes = sizes-kept d;
             sameFill = inl (interrupt-quiet d .noFill);
@@ -257,13 +263,13 @@ not-owner d v p q = alone (d .command .pending) p q (omega (arith, v .commandVal
 status-decided : (d : Device) → Valid d → DecisionValid d (decideStatus d)
 status-decided d v = go (d .locked)
   where
-    go : (b : Bool) → DecisionValid d (if b then decision d (refusedWith 0x0012) nothing else decision d (good 0 0) sendStatus)
+    go : (b : Bool) → DecisionValid d (if b then decision d (refusedWith 0x0012) nothing else decision d (good 0 0) (sending status))
     go true = still d d _ v (code-fits 0x0012 (omega arith)) (refl, refl) refl
-    go false = record { deviceValid = v; effectValid = tt; fits = plain; sameSizes = (refl, refl); sameFill = inr refl }
+    go false = record { deviceValid = v; effectValid = (tt, tt); fits = plain; sameSizes = (refl, refl); sameFill = inr refl }
 
-pub decide-valid : (p : ℕ) (m : List ℕ) (d : Device) → Valid d → Sized mailboxSize m → DecisionValid d (decide p m d)
+pub decide-valid : (s : Serving) (m : List ℕ) (d : Device) → Valid d → Sized mailboxSize m → DecisionValid d (decide s m d)
 unfolding decide
-decide-valid p m d v whole = go (requestOf m)
+decide-valid s m d v whole = go (requestOf m)
   where
     sector : Sized sectorSize (dataOf m)
     sector =
@@ -272,14 +278,14 @@ decide-valid p m d v whole = go (requestOf m)
           bytes = bytes-part m registersSize sectorSize (whole .bytes);
         }
 
-    keyed : DecisionValid (interrupt d) (decideKey p (dataOf m) (interrupt d))
-    keyed = key-decided (interrupt d) p (interrupt-valid d v) (interrupt-quiet d) (dataOf m) (sector .size) (sector .bytes)
+    keyed : DecisionValid (interrupt d) (decideKey (s .port) (dataOf m) (interrupt d))
+    keyed = key-decided (interrupt d) (s .port) (interrupt-valid d v) (interrupt-quiet d) (dataOf m) (sector .size) (sector .bytes)
 
     same-fill : (f : Fill) → (f ≡ idle) ⊎ (f ≡ interrupt d .command .fill) → (f ≡ idle) ⊎ (f ≡ d .command .fill)
     same-fill f (inl e) = inl e
     same-fill f (inr e) = inl (e ∙ interrupt-quiet d .noFill)
 
-    go : (r : Request) → DecisionValid d (decideRequest r p m d)
+    go : (r : Request) → DecisionValid d (decideRequest r s m d)
     go statusRead = status-decided d v
     go keySector =
         record {
@@ -290,12 +296,12 @@ decide-valid p m d v whole = go (requestOf m)
           sameFill = same-fill _ (keyed .sameFill);
         }
     go (dataTransfer dir count) =
-        data-decided d v (dataOf m) sector dir count (pendingFor p d) (pending-for (d .visible) (d .command .pending) p (v .commandValid .pendingValid))
+        data-decided d v (dataOf m) sector dir count (pendingFor (s .port) d) (pending-for (d .visible) (d .command .pending) (s .port) (v .commandValid .pendingValid))
     go (sectorAccess dir count lba) = sector-decided d v (dataOf m) sector dir count lba
     go other =
         record {
           deviceValid = interrupt-valid d v;
-          effectValid = tt;
+          effectValid = (tt, tt);
           fits = refused-fits 0x04 (omega arith);
           sameSizes = sizes-kept d;
           sameFill = inl (interrupt-quiet d .noFill);

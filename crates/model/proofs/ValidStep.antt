@@ -18,20 +18,21 @@ use Rattle.wire.proofs.PartsLaws.{length-part, drop-sets-after}
 use Rattle.wire.proofs.BytesLaws.{bytes-nil, bytes-part, bytes-sets, bytes-form}
 use Rattle.model.specs.Sizes.{sectorSize, mailboxSize, portCount, nativeLimit, historySize}
 use Rattle.model.specs.Device.{Fill, idle, running, Device}
+use Rattle.model.specs.Disk.{Disk, withSector}
 use Rattle.model.specs.Update.{withInitialized, withLocked, withFill}
 use Rattle.model.specs.Registers.{replyBytes}
 use Rattle.model.specs.Status.{statusFields, statusSector}
 use Rattle.model.specs.Fill.{Volume, runningCode, wholeDisk, startFill, interrupt, writeSector, advanced, fillStep, sectorStep, iterate, workCount}
 use Rattle.model.specs.Fill.{work as workVolume}
-use Rattle.model.specs.Decide.{Effect, nothing, sendStatus, sendTemperatures, readLba, writeLba, beginFill, Decision, decide}
-use Rattle.model.specs.Perform.{written, sent, fillSectorAfter, Span, spanOf}
+use Rattle.model.specs.Decide.{Writing, noWrite, oneSector, newFill, Sending, noData, status, temperatures, diskSector, Decision, decide}
+use Rattle.model.specs.Perform.{written, volumeAfter, fillSectorAfter, contentRead, sent, replyOf}
 use Rattle.model.specs.Owner.{setLock}
 use Rattle.model.specs.Owner.{setVisible as setVisibleDevice, sample as sampleDevice}
 use Rattle.model.specs.Image.{wholeSectors, readable, powerOnChecks, sameDisk, restored, blank, newest}
 use Rattle.model.specs.Image.{powerOn as powerOnDevice}
 use Rattle.model.specs.Machine.{Port, empty, request, reply, Machine, whileRunning, machine, withPort, heldBytes}
-use Rattle.model.specs.Step.{Step, take, serve, give, work, lock, unlock, setVisible, sample, save, powerOn, checks, unchanged, seenDone, does, isRequest, volume, served, serveDecided, worked, poweredOn, Outcome, step, trace}
-use Rattle.model.specs.Valid.{FillValid, SectorValid, PortValid, Sized, Valid, MachineValid, Fed}
+use Rattle.model.specs.Step.{OwnerStep, lock, unlock, setVisible, sample, Step, take, serve, give, work, owner, save, powerOn, goodValue, checks, unchanged, seenDone, does, isRequest, volume, served, serveDecided, worked, poweredOn, Outcome, step, trace}
+use Rattle.model.specs.Valid.{FillValid, SectorValid, PortValid, Sized, DiskValid, Valid, MachineValid, OwnerFed, Fed}
 use Rattle.model.proofs.StepLaws.{step-done, step-refused, answers-numbered}
 use Rattle.model.proofs.FormatLaws.{status-at, table-at, table-bytes, reply-sized}
 use Rattle.model.proofs.EntryLaws.{SavedFits}
@@ -39,14 +40,14 @@ use Rattle.model.proofs.PowerOnLaws.{power-on-valid, blank-fits, blank-
 use Rattle.model.proofs.OwnerLaws.{Quiet, interrupt-quiet}
 use Rattle.model.proofs.RequestLaws.{interrupt-kept}
 use Rattle.model.proofs.ValidDevice.{initialized-valid, locked-valid, interrupt-command, interrupt-valid, start-valid, advanced-valid, sampled-valid}
-use Rattle.model.proofs.ValidRequest.{EffectValid, DecisionValid, decide-valid}
+use Rattle.model.proofs.ValidRequest.{WritingValid, SendingValid, DecisionValid, decide-valid}
 
 -- ---- effects
 
 -- a device and a disk of its size
 pub record VolumeValid (v : Volume) : Type 0 where
   pub deviceValid : Valid (v .device)
-  pub diskValid : Sized (sectorSize * v .device .native) (v .disk)
+  pub diskValid : DiskValid (v .device .native) (v .disk)
 
 write-valid : (lba : ℕ) (sector : List ℕ) (v : Volume) → VolumeValid v → Sized sectorSize sector → VolumeValid (writeSector lba sector v)
 unfolding writeSector
@@ -55,27 +56,34 @@ write-valid lba sector v ok s =
       deviceValid = initialized-valid false (v .device) (ok .deviceValid);
       diskValid =
           record {
-            size = length-sets (v .disk) (sectorSize * lba) sector ∙ ok .diskValid .size;
-            bytes = bytes-sets sector (v .disk) (sectorSize * lba) (ok .diskValid .bytes) (s .bytes);
+            size = length-sets (v .disk .sectors) (sectorSize * lba) sector ∙ ok .diskValid .size;
+            bytes = bytes-sets sector (v .disk .sectors) (sectorSize * lba) (ok .diskValid .bytes) (s .bytes);
           };
     }
 
-written-valid : (e : Effect) (v : Volume) → VolumeValid v → EffectValid (v .device) e → VolumeValid (written e v)
-written-valid nothing v ok k = ok
-written-valid sendStatus v ok k = ok
-written-valid sendTemperatures v ok k = ok
-written-valid (readLba lba) v ok k = ok
-written-valid (writeLba lba sector) v ok k = write-valid lba sector v ok (k .1)
-written-valid (beginFill first end sector) v ok k =
+written-valid : (w : Writing) (v : Volume) → VolumeValid v → WritingValid (v .device) w → VolumeValid (written w v)
+written-valid noWrite v ok k = ok
+written-valid (oneSector lba sector) v ok k = write-valid lba sector v ok (k .1)
+written-valid (newFill first end sector) v ok k =
     record { deviceValid = start-valid first end (v .device) (ok .deviceValid) (k .3) (k .0) (k .1); diskValid = ok .diskValid }
 
+-- what is written leaves N and V
+pub written-sizes : (w : Writing) (v : Volume) → (written w v .device .native ≡ v .device .native) × (written w v .device .visible ≡ v .device .visible)
+unfolding writeSector
+written-sizes noWrite v = (refl, refl)
+written-sizes (oneSector lba sector) v = (refl, refl)
+written-sizes (newFill first end sector) v = (refl, refl)
+
 -- what a reply carries is at most a sector of bytes
-pub sent-valid : (e : Effect) (v : Volume) → VolumeValid v → EffectValid (v .device) e → (length (sent e v) ≤ sectorSize) × Bytes (sent e v)
+abbrev SentValid : List ℕ → Type 0
+SentValid l = (length l ≤ sectorSize) × Bytes l
+
+sent-valid : (x : Sending) (v : Volume) → VolumeValid v → SendingValid (v .device .visible) x → SentValid (sent x (v .device) (contentRead x (v .disk)))
 unfolding statusSector
-sent-valid nothing v ok k = (omega arith, bytes-nil)
-sent-valid sendStatus v ok k =
+sent-valid noData v ok k = (omega arith, bytes-nil)
+sent-valid status v ok k =
     (omega (arith, status-at (v .device) (ok .deviceValid) .size), bytes-form sectorSize (statusFields (v .device)))
-sent-valid sendTemperatures v ok k =
+sent-valid temperatures v ok k =
     let d = v .device in
     let t = ok .deviceValid .thermalValid in
     let interval = ok .deviceValid .settingsValid .intervalValid .1 in
@@ -83,12 +91,10 @@ sent-valid sendTemperatures v ok k =
       omega (arith, at .size),
       table-bytes (d .settings .logInterval .state) (d .thermal .index) (d .thermal .history) (t .readings),
     )
-sent-valid (readLba lba) v ok k = (
-  omega (arith, length-part (v .disk) (sectorSize * lba) sectorSize (omega (arith, ok .diskValid .size, ok .deviceValid .sizes .1))),
-  bytes-part (v .disk) (sectorSize * lba) sectorSize (ok .diskValid .bytes),
+sent-valid (diskSector lba) v ok k = (
+  omega (arith, length-part (v .disk .sectors) (sectorSize * lba) sectorSize (omega (arith, ok .diskValid .size, ok .deviceValid .sizes .1))),
+  bytes-part (v .disk .sectors) (sectorSize * lba) sectorSize (ok .diskValid .bytes),
 )
-sent-valid (writeLba lba sector) v ok k = (omega arith, bytes-nil)
-sent-valid (beginFill first end sector) v ok k = (omega arith, bytes-nil)
 
 -- ---- the fill's sector
 
@@ -106,15 +112,12 @@ running-valid : (f : Fill) (s : List ℕ) → Suits f s → SectorValid f (while
 running-valid idle s v = refl
 running-valid (running first next end) s v = v
 
-sector-after : (e : Effect) (d : Device) (disk s : List ℕ) → EffectValid d e → Suits (d .command .fill) s
-    → Suits (written e (record { device = d; disk = disk }) .device .command .fill) (fillSectorAfter e s)
+sector-after : (w : Writing) (v : Volume) (s : List ℕ) → WritingValid (v .device) w → Suits (v .device .command .fill) s
+    → Suits (written w v .device .command .fill) (fillSectorAfter w s)
 unfolding writeSector
-sector-after nothing d disk s k v = v
-sector-after sendStatus d disk s k v = v
-sector-after sendTemperatures d disk s k v = v
-sector-after (readLba lba) d disk s k v = v
-sector-after (writeLba lba sector) d disk s k v = v
-sector-after (beginFill first end sector) d disk s k v = k .2
+sector-after noWrite v s k h = h
+sector-after (oneSector lba sector) v s k h = h
+sector-after (newFill first end sector) v s k h = k .2
 
 -- the fill that was decided is the one there was, or none
 sector-decided : (f g : Fill) (s : List ℕ) → (f ≡ idle) ⊎ (f ≡ g) → Suits g s → Suits f s
@@ -130,33 +133,35 @@ ports-valid p x ports v w q = go (eqb q p)
     go true = v
     go false = w q
 
-written-native : (e : Effect) (v : Volume) → written e v .device .native ≡ v .device .native
-unfolding writeSector
-written-native nothing v = refl
-written-native sendStatus v = refl
-written-native sendTemperatures v = refl
-written-native (readLba lba) v = refl
-written-native (writeLba lba sector) v = refl
-written-native (beginFill first end sector) v = refl
-
 module _ (p : ℕ) (c : Decision) (M : Machine) (ok : MachineValid M) (k : DecisionValid (M .device) c) where
-  pub decided-volume : VolumeValid (record { device = c .device; disk = M .disk })
-  decided-volume = record { deviceValid = k .deviceValid; diskValid = rw (k .sameSizes .0) (ok .diskValid) }
+  abbrev decided : Volume
+  decided = record { device = c .device; disk = M .disk }
+
+  abbrev after : Volume
+  after = volumeAfter c (M .disk)
+
+  after-valid : VolumeValid after
+  after-valid =
+      written-valid (c .effect .writes) decided (record { deviceValid = k .deviceValid; diskValid = rw (k .sameSizes .0) (ok .diskValid) }) (k .effectValid .0)
+
+  -- the reply fills a mailbox
+  pub reply-valid : Sized mailboxSize (replyOf c after)
+  reply-valid =
+      let x = c .effect .sends in
+      let s = sent-valid x after after-valid (rw (written-sizes (c .effect .writes) decided .1) (k .effectValid .1)) in
+      reply-sized (c .registers) (sent x (after .device) (contentRead x (after .disk))) (s .0) (s .1)
 
   pub serve-valid : MachineValid (serveDecided p c M)
   unfolding serveDecided
   serve-valid =
-      let v : Volume = record { device = c .device; disk = M .disk } in
-      let w = written-valid (c .effect) v decided-volume (k .effectValid) in
-      let s = sent-valid (c .effect) v decided-volume (k .effectValid) in
+      let kept = sector-decided (c .device .command .fill) (M .device .command .fill) (M .sector) (k .sameFill) (suits (M .device .command .fill) (M .sector) (ok .sectorValid)) in
       record {
-        deviceValid = w .deviceValid;
+        deviceValid = after-valid .deviceValid;
         sectorValid =
-            running-valid (written (c .effect) v .device .command .fill) (fillSectorAfter (c .effect) (M .sector))
-            (sector-after (c .effect) (c .device) (M .disk) (M .sector) (k .effectValid)
-            (sector-decided (c .device .command .fill) (M .device .command .fill) (M .sector) (k .sameFill) (suits (M .device .command .fill) (M .sector) (ok .sectorValid))));
-        portsValid = ports-valid p (reply (replyBytes (c .registers) (sent (c .effect) v))) (M .ports) (reply-sized (c .registers) (sent (c .effect) v) (s .0) (s .1)) (ok .portsValid);
-        diskValid = w .diskValid;
+            running-valid (after .device .command .fill) (fillSectorAfter (c .effect .writes) (M .sector))
+            (sector-after (c .effect .writes) decided (M .sector) (k .effectValid .0) kept);
+        portsValid = ports-valid p (reply (replyOf c after)) (M .ports) reply-valid (ok .portsValid);
+        diskValid = after-valid .diskValid;
       }
 
 -- ---- work
@@ -182,13 +187,13 @@ running-step-valid : (first next end : ℕ) (sector : List ℕ) (v : Volume) →
 unfolding writeSector
 running-step-valid first next end sector v ok s e =
     let d = withInitialized false (v .device) in
-    let disk = sets (v .disk) (sectorSize * next) sector in
+    let disk = withSector next sector (v .disk) in
     let w = write-valid next sector v ok s in
     record {
       volumeValid =
           record {
             deviceValid = advanced-valid first next end d (w .deviceValid) e;
-            diskValid = advanced-cases (λ x. Sized (sectorSize * x .native) disk) first (suc next) end d (w .diskValid) (w .diskValid);
+            diskValid = advanced-cases (λ x. DiskValid (x .native) disk) first (suc next) end d (w .diskValid) (w .diskValid);
           };
       sectorValid = advanced-cases (λ x. Suits (x .command .fill) sector) first (suc next) end d tt s;
     }
@@ -290,20 +295,21 @@ restored-native native image used h = go (eqb used 0) h
     go true e = refl
     go false e = eqb-true (newest image used .native) native e
 
-pub power-on-machine : (disk image : List ℕ) (used : ℕ) → Bytes disk → Bytes image → firstFailed (powerOnChecks disk image used) ≡ 0
+pub power-on-machine : (disk : Disk) (image : List ℕ) (used : ℕ) → Bytes (disk .sectors) → Bytes image → firstFailed (powerOnChecks (disk .sectors) image used) ≡ 0
     → MachineValid (poweredOn disk image used)
 unfolding poweredOn powerOnDevice
 power-on-machine disk image used db ib e =
-    let pass = all-pass 8 (powerOnChecks disk image used) (omega arith) e in
-    let whole = eqb-true (length disk % sectorSize) 0 (and-left _ _ (pass .0)) in
-    let sizes = between-true 1 (length disk / sectorSize) nativeLimit (and-right (eqb (length disk % sectorSize) 0) _ (pass .0)) in
+    let size = length (disk .sectors) in
+    let pass = all-pass 8 (powerOnChecks (disk .sectors) image used) (omega arith) e in
+    let whole = eqb-true (size % sectorSize) 0 (and-left _ _ (pass .0)) in
+    let sizes = between-true 1 (size / sectorSize) nativeLimit (and-right (eqb (size % sectorSize) 0) _ (pass .0)) in
     record {
-      deviceValid = restored-valid (length disk / sectorSize) image used (sizes .0) (sizes .1) ib (pass .1 .1 .0);
+      deviceValid = restored-valid (size / sectorSize) image used (sizes .0) (sizes .1) ib (pass .1 .1 .0);
       sectorValid = refl;
       portsValid = λ p. tt;
       diskValid =
           record {
-            size = rw (restored-native (length disk / sectorSize) image used (pass .1 .1 .1 .0)) (omega arith);
+            size = rw (restored-native (size / sectorSize) image used (pass .1 .1 .1 .0)) (omega arith);
             bytes = db;
           };
     }
@@ -324,6 +330,12 @@ port-changed : (p : ℕ) (x : Port) (M : Machine) → MachineValid M → PortVal
 port-changed p x M ok v =
     record { deviceValid = ok .deviceValid; sectorValid = sector-kept M ok; portsValid = ports-valid p x (M .ports) v (ok .portsValid); diskValid = ok .diskValid }
 
+owner-valid : (x : OwnerStep) (M : Machine) → OwnerFed x → MachineValid M → goodValue x (M .device) ≡ true → MachineValid (does (owner x) M)
+owner-valid lock M fed ok e = lock-valid true M ok
+owner-valid unlock M fed ok e = lock-valid false M ok
+owner-valid (setVisible v) M fed ok e = let range = between-true 1 v (M .device .native) e in visible-valid v M ok (range .0) (range .1)
+owner-valid (sample reading) M fed ok e = sample-valid reading M ok fed
+
 pub does-valid : (x : Step) (M : Machine) → Fed x → MachineValid M → firstFailed (checks x M) ≡ 0 → MachineValid (does x M)
 unfolding served
 does-valid (take p m) M fed ok e =
@@ -333,17 +345,11 @@ does-valid (serve s) M fed ok e =
     let p = s .port in
     let pass = all-pass 8 (checks (serve s) M) (answers-numbered (serve s) M) e in
     let m = heldBytes (M .ports p) in
-    serve-valid p (decide p m (M .device)) M ok
-    (decide-valid p m (M .device) (ok .deviceValid) (request-held (M .ports p) (pass .1 .0) (ok .portsValid p)))
+    serve-valid p (decide s m (M .device)) M ok
+    (decide-valid s m (M .device) (ok .deviceValid) (request-held (M .ports p) (pass .1 .0) (ok .portsValid p)))
 does-valid (give p m) M fed ok e = port-changed p empty M ok tt
 does-valid (work n) M fed ok e = work-valid n M ok
-does-valid lock M fed ok e = lock-valid true M ok
-does-valid unlock M fed ok e = lock-valid false M ok
-does-valid (setVisible v) M fed ok e =
-    let pass = all-pass 8 (checks (setVisible v) M) (answers-numbered (setVisible v) M) e in
-    let range = between-true 1 v (M .device .native) (pass .0) in
-    visible-valid v M ok (range .0) (range .1)
-does-valid (sample reading) M fed ok e = sample-valid reading M ok fed
+does-valid (owner x) M fed ok e = owner-valid x M fed ok (all-pass 8 (checks (owner x) M) (answers-numbered (owner x) M) e .0)
 does-valid (save image used) M fed ok e = ok
 does-valid (powerOn image used) M fed ok e = power-on-machine (M .disk) image used (ok .diskValid .bytes) fed e
 

@@ -26,7 +26,7 @@ use Rattle.model.specs.Step.{Step, work, Outcome, step, volume, worked}
 -- a volume of v, its fill moved to a place, with these bytes from the fill's sector next on
 moved : ℕ → ℕ → ℕ → Volume → ℕ → List ℕ → Volume
 moved first next end v place bytes =
-    record { device = advanced first place end (withInitialized false (v .device)); disk = sets (v .disk) (sectorSize * next) bytes }
+    record { device = advanced first place end (withInitialized false (v .device)); disk = record { sectors = sets (v .disk .sectors) (sectorSize * next) bytes } }
 
 -- while sectors are left, the fill runs on
 advanced-runs : (first next end : ℕ) (d : Device) → next < end → advanced first next end d ≡ withFill (running first next end) runningCode d
@@ -70,26 +70,26 @@ module _ (first next end : ℕ) (sector : List ℕ) (v : Volume) (runs : v .devi
   unfolding sectorStep writeSector moved
   next-sector k h =
       rw (advanced-runs first (next + k) end (withInitialized false (v .device)) h, add-suc next k)
-      (λ i. record { device = advanced-again first (next + k) end (v .device) i; disk = disk-again (v .disk) sector next k whole i })
+      (λ i. record { device = advanced-again first (next + k) end (v .device) i; disk = record { sectors = disk-again (v .disk .sectors) sector next k whole i } })
 
   -- "writes the fill's sector to the k places from next on and moves next by k"
-  sectors : (k : ℕ) → next + suc k ≤ end → iterate (suc k) (sectorStep sector) v ≡ moved first next end v (next + suc k) (repeated (suc k) sector)
-  sectors zero h = first-sector
-  sectors (suc k) h = ap (sectorStep sector) (sectors k (omega arith)) ∙ next-sector (suc k) (omega arith)
+  stepped-more : (k : ℕ) → next + suc k ≤ end → iterate (suc k) (sectorStep sector) v ≡ moved first next end v (next + suc k) (repeated (suc k) sector)
+  stepped-more zero h = first-sector
+  stepped-more (suc k) h = ap (sectorStep sector) (stepped-more k (omega arith)) ∙ next-sector (suc k) (omega arith)
 
   -- k steps in all, from none on
   stepped : (k : ℕ) → 0 < k → next + k ≤ end → iterate k (sectorStep sector) v ≡ moved first next end v (next + k) (repeated k sector)
   stepped zero p h = absurd (omega arith)
-  stepped (suc k) p h = sectors k h
+  stepped (suc k) p h = stepped-more k h
 
   pub steps-device : (k : ℕ) → 0 < k → next + k ≤ end → iterate k (sectorStep sector) v .device ≡ advanced first (next + k) end (withInitialized false (v .device))
   unfolding moved
   steps-device k p h = ap (λ (w : Volume). w .device) (stepped k p h)
 
-  pub steps-disk : (k : ℕ) → next + k ≤ end → iterate k (sectorStep sector) v .disk ≡ sets (v .disk) (sectorSize * next) (repeated k sector)
+  pub steps-disk : (k : ℕ) → next + k ≤ end → iterate k (sectorStep sector) v .disk .sectors ≡ sets (v .disk .sectors) (sectorSize * next) (repeated k sector)
   unfolding moved repeated
   steps-disk zero h = refl
-  steps-disk (suc k) h = ap (λ (w : Volume). w .disk) (sectors k h)
+  steps-disk (suc k) h = ap (λ (w : Volume). w .disk .sectors) (stepped-more k h)
 
 -- ---- the work step
 
@@ -147,22 +147,22 @@ module _ (n : ℕ) (M : Machine) (first next end : ℕ) (runs : M .device .comma
   counted = rw runs
 
   -- "writes the fill's sector to the k places from next on"; all else stays
-  pub work-disk : after .state .disk ≡ sets (M .disk) (sectorSize * next) (repeated k (M .sector))
+  pub work-disk : after .state .disk .sectors ≡ sets (M .disk .sectors) (sectorSize * next) (repeated k (M .sector))
   unfolding step worked workVolume
-  work-disk = ap (λ (j : ℕ). iterate j (sectorStep (M .sector)) (volume M) .disk) counted ∙ steps-disk first next end (M .sector) (volume M) runs whole k (omega arith)
+  work-disk = ap (λ (j : ℕ). iterate j (sectorStep (M .sector)) (volume M) .disk .sectors) counted ∙ steps-disk first next end (M .sector) (volume M) runs whole k (omega arith)
 
   -- each of the k places holds the sector
-  pub work-places : (j : ℕ) → j < k → sectorSize * end ≤ length (M .disk) → part (after .state .disk) (sectorSize * (next + j)) sectorSize ≡ M .sector
-  work-places j h fits = rw work-disk (place-holds (M .disk) (M .sector) next k j whole h (omega arith))
+  pub work-places : (j : ℕ) → j < k → sectorSize * end ≤ length (M .disk .sectors) → part (after .state .disk .sectors) (sectorSize * (next + j)) sectorSize ≡ M .sector
+  work-places j h fits = rw work-disk (place-holds (M .disk .sectors) (M .sector) next k j whole h (omega arith))
 
   -- every other byte stays
-  pub work-keeps-below : (i : ℕ) → i < sectorSize * next → getD (after .state .disk) i 0 ≡ getD (M .disk) i 0
-  work-keeps-below i h = rw work-disk (getD-sets-before (repeated k (M .sector)) (M .disk) (sectorSize * next) i h)
+  pub work-keeps-below : (i : ℕ) → i < sectorSize * next → getD (after .state .disk .sectors) i 0 ≡ getD (M .disk .sectors) i 0
+  work-keeps-below i h = rw work-disk (getD-sets-before (repeated k (M .sector)) (M .disk .sectors) (sectorSize * next) i h)
 
-  pub work-keeps-above : (i : ℕ) → sectorSize * (next + k) ≤ i → getD (after .state .disk) i 0 ≡ getD (M .disk) i 0
+  pub work-keeps-above : (i : ℕ) → sectorSize * (next + k) ≤ i → getD (after .state .disk .sectors) i 0 ≡ getD (M .disk .sectors) i 0
   work-keeps-above i h =
       rw work-disk
-      (getD-sets-after (repeated k (M .sector)) (M .disk) (sectorSize * next) i (rw (length-repeated k (M .sector), whole) (omega arith)))
+      (getD-sets-after (repeated k (M .sector)) (M .disk .sectors) (sectorSize * next) i (rw (length-repeated k (M .sector), whole) (omega arith)))
 
   device-after : 0 < k → after .state .device ≡ advanced first (next + k) end (withInitialized false (M .device))
   unfolding step worked workVolume moved

@@ -12,14 +12,37 @@ use Rattle.model.specs.Key.{word, FeatureName, writeCache, reordering, l
 use Rattle.model.specs.Temperature.{historyEmptied}
 use Rattle.model.specs.Fill.{interrupt}
 
--- What is still to be done with the disk, or sent. A write has its LBA and the sector, a fill its first sector, end and sector.
-pub data Effect : Type 0 where
-  nothing : Effect
-  sendStatus : Effect
-  sendTemperatures : Effect
-  readLba : ℕ → Effect
-  writeLba : ℕ → List ℕ → Effect
-  beginFill : ℕ → ℕ → List ℕ → Effect
+-- What a serve is fed: a record, since W-211 adds a field.
+pub record Serving : Type 0 where
+  pub port : ℕ
+
+-- ---- an effect: what is still to be written, and what the reply is to carry
+
+-- nothing; a sector, with its LBA and content; or a fill that begins, with its first sector, its end and its sector
+pub data Writing : Type 0 where
+  noWrite : Writing
+  oneSector : ℕ → List ℕ → Writing
+  newFill : ℕ → ℕ → List ℕ → Writing
+
+-- nothing; the status sector; the temperature table; or the sector at an LBA
+pub data Sending : Type 0 where
+  noData : Sending
+  status : Sending
+  temperatures : Sending
+  diskSector : ℕ → Sending
+
+pub record Effect : Type 0 where
+  pub writes : Writing
+  pub sends : Sending
+
+abbrev pub nothing : Effect
+nothing = record { writes = noWrite; sends = noData }
+
+abbrev pub writing : Writing → Effect
+writing w = record { writes = w; sends = noData }
+
+abbrev pub sending : Sending → Effect
+sending x = record { writes = noWrite; sends = x }
 
 pub record Decision : Type 0 where
   pub device : Device
@@ -33,7 +56,7 @@ decision d r e = record { device = d; registers = r; effect = e }
 
 -- "A refused status read under the lock answers 0012h and stores nothing."
 abbrev pub decideStatus : Device → Decision
-decideStatus d = if d .locked then decision d (refusedWith 0x0012) nothing else decision d (good 0 0) sendStatus
+decideStatus d = if d .locked then decision d (refusedWith 0x0012) nothing else decision d (good 0 0) (sending status)
 
 -- ---- key sector
 
@@ -70,7 +93,7 @@ afterFeature logInterval d = withThermal (historyEmptied (d .thermal)) d
 -- LBA Low (high); other accepted keys have 0 there. LBA Mid is 1 if a sector is owed (fill function 2, table), else 0."
 -- "Pattern fill starts at once".
 unfoldable pub carryOut : Action → ℕ → Device → Decision
-carryOut (fillPattern first end sector) p d = decision d (good 0 0) (beginFill first end sector)
+carryOut (fillPattern first end sector) p d = decision d (good 0 0) (writing (newFill first end sector))
 carryOut (fillSector first end) p d = decision (withPending (set (d .command .pending) p (fillData first end)) d) (good 0 1) nothing
 carryOut (setTimer t n) p d = decision (withSettings (withTimer t n (d .settings)) d) (good 0 0) nothing
 carryOut (returnTimer t) p d = decision d (good (timer t (d .settings)) 0) nothing
@@ -111,8 +134,8 @@ dataChecks locked dir count t = (not locked, 0x0012) ∷ (moves dir t, 0x000B) �
 
 abbrev pub transferEffect : Transfer → List ℕ → Effect
 transferEffect none sector = nothing
-transferEffect table sector = sendTemperatures
-transferEffect (fillData first end) sector = beginFill first end sector
+transferEffect table sector = sending temperatures
+transferEffect (fillData first end) sector = writing (newFill first end sector)
 
 -- "Each becomes the stored code." "A completed transfer stores 0000h, or FFFFh where it starts a fill."
 unfoldable pub decideData : Direction → ℕ → Transfer → List ℕ → Device → Decision
@@ -127,8 +150,8 @@ abbrev pub sectorChecks : Device → ℕ → ℕ → List Check
 sectorChecks d count lba = (not (d .locked), 0x04) ∷ (eqb count 1, 0x04) ∷ (ltb lba (d .visible), 0x10) ∷ []
 
 abbrev pub sectorEffect : Direction → ℕ → List ℕ → Effect
-sectorEffect read lba sector = readLba lba
-sectorEffect write lba sector = writeLba lba sector
+sectorEffect read lba sector = sending (diskSector lba)
+sectorEffect write lba sector = writing (oneSector lba sector)
 
 unfoldable pub decideSector : Direction → ℕ → ℕ → List ℕ → Device → Decision
 decideSector dir count lba sector d =
@@ -143,13 +166,13 @@ pendingFor p d = getD (d .command .pending) p none
 -- "Every request but a well-formed status read first stops a running fill (code 0008h) and drops an owed transfer;
 -- an E1h request judges that owed transfer as it was before."
 -- "All else ..: Error 04h, stored code unchanged unless a fill was stopped."
-abbrev pub decideRequest : Request → ℕ → List ℕ → Device → Decision
-decideRequest statusRead p m d = decideStatus d
-decideRequest keySector p m d = decideKey p (dataOf m) (interrupt d)
-decideRequest (dataTransfer dir count) p m d = decideData dir count (pendingFor p d) (dataOf m) (interrupt d)
-decideRequest (sectorAccess dir count lba) p m d = decideSector dir count lba (dataOf m) (interrupt d)
-decideRequest other p m d = decision (interrupt d) (refused 0x04) nothing
+abbrev pub decideRequest : Request → Serving → List ℕ → Device → Decision
+decideRequest statusRead s m d = decideStatus d
+decideRequest keySector s m d = decideKey (s .port) (dataOf m) (interrupt d)
+decideRequest (dataTransfer dir count) s m d = decideData dir count (pendingFor (s .port) d) (dataOf m) (interrupt d)
+decideRequest (sectorAccess dir count lba) s m d = decideSector dir count lba (dataOf m) (interrupt d)
+decideRequest other s m d = decision (interrupt d) (refused 0x04) nothing
 
--- the request m of the port p
-unfoldable pub decide : ℕ → List ℕ → Device → Decision
-decide p m d = decideRequest (requestOf m) p m d
+-- the request m, served with s
+unfoldable pub decide : Serving → List ℕ → Device → Decision
+decide s m d = decideRequest (requestOf m) s m d

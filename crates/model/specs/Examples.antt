@@ -51,7 +51,7 @@ numbers r = r .status ∷ r .error ∷ r .value ∷ []
 
 -- Status, Error and code of the reply to a key; the maximum after a sample; the sectors that a work step writes
 unfoldable pub evaluate : Example → List ℕ
-evaluate (key fields) = numbers (decide 0 (keyMailbox fields) fresh .registers)
+evaluate (key fields) = numbers (decide (record { port = 0 }) (keyMailbox fields) fresh .registers)
 evaluate (maximum old reading) = sample reading (withMaximum old) .thermal .lifeMaximum ∷ []
 evaluate (left count n) = workCount n (running 0 (64 - count) 64) ∷ []
 

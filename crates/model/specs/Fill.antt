@@ -1,14 +1,14 @@
 -- The fill: how it starts, moves on by one sector, is worked off under a budget, and is stopped; the ordinary write of a sector.
 use mathlib.Core.Bool.{Bool, true, false, _&&_}
-use Prim.Native.Nat.{ℕ, zero, suc, _-_, _*_}
+use Prim.Native.Nat.{ℕ, zero, suc, _-_}
 use Prim.Native.Nat.{min}
 use mathlib.Core.List.{List, [], _∷_}
 use lib.ListN.{replicate}
-use lib.Seq.{sets}
 use lib.Dec.{eqb}
 use Rattle.wire.specs.Choice.{if_then_else_}
-use Rattle.model.specs.Sizes.{sectorSize, portCount}
+use Rattle.model.specs.Sizes.{portCount}
 use Rattle.model.specs.Device.{Fill, idle, running, Transfer, none, Device}
+use Rattle.model.specs.Disk.{Disk, withSector}
 use Rattle.model.specs.Update.{withFill, withPending, withInitialized}
 
 -- "A running fill stores FFFFh; its last sector stores 0000h."
@@ -36,14 +36,14 @@ interrupt d = withPending nothingPending (stopFill (d .command .fill) d)
 
 -- ---- sectors written
 
--- the device and the disk's bytes
+-- the device and its disk
 pub record Volume : Type 0 where
   pub device : Device
-  pub disk : List ℕ
+  pub disk : Disk
 
 -- An ordinary write. "The Segment Initialized flag is cleared by any sector written"
 unfoldable pub writeSector : ℕ → List ℕ → Volume → Volume
-writeSector lba sector v = record { device = withInitialized false (v .device); disk = sets (v .disk) (sectorSize * lba) sector }
+writeSector lba sector v = record { device = withInitialized false (v .device); disk = withSector lba sector (v .disk) }
 
 -- ".. and set when a fill from 0 to the last user LBA ends."
 abbrev pub wholeDisk : ℕ → ℕ → ℕ → Bool

@@ -1,6 +1,7 @@
 -- The model machine of document 01, in reading order.
 pub mod Sizes
 pub mod Device
+pub mod Disk
 pub mod Update
 pub mod Registers
 pub mod Key

@@ -4,6 +4,7 @@ use mathlib.Core.List.{List, []}
 use lib.Dec.{eqb}
 use Rattle.wire.specs.Choice.{if_then_else_}
 use Rattle.model.specs.Device.{Fill, idle, running, Device}
+use Rattle.model.specs.Disk.{Disk}
 
 -- "for each port nothing, a request or a reply"
 pub data Port : Type 0 where
@@ -17,14 +18,14 @@ pub record Machine : Type 0 where
   pub device : Device
   pub sector : List ℕ
   pub ports : ℕ → Port
-  pub disk : List ℕ
+  pub disk : Disk
 
 -- a fill's sector lasts as long as the fill
 abbrev pub whileRunning : Fill → List ℕ → List ℕ
 whileRunning idle sector = []
 whileRunning (running first next end) sector = sector
 
-abbrev pub machine : Device → List ℕ → (ℕ → Port) → List ℕ → Machine
+abbrev pub machine : Device → List ℕ → (ℕ → Port) → Disk → Machine
 machine d sector ports disk = record { device = d; sector = whileRunning (d .command .fill) sector; ports = ports; disk = disk }
 
 -- the ports with another content of port p

@@ -1,55 +1,66 @@
--- An effect performed: what is written and what is sent. This alone, and the fill's sector step, touch the disk.
-use Prim.Native.Nat.{ℕ, suc, _*_}
+-- An effect performed: first what is written, then what is sent. This alone, and the fill's sector step, touch the disk.
+use Prim.Native.Nat.{ℕ, suc}
 use mathlib.Core.List.{List, []}
-use Rattle.wire.specs.Parts.{part}
-use Rattle.model.specs.Sizes.{sectorSize}
 use Rattle.model.specs.Device.{Device}
+use Rattle.model.specs.Disk.{Disk, sectorAt}
+use Rattle.model.specs.Registers.{Registers, replyBytes}
 use Rattle.model.specs.Status.{statusSector}
 use Rattle.model.specs.Temperature.{tableBytes}
 use Rattle.model.specs.Fill.{Volume, startFill, writeSector}
-use Rattle.model.specs.Decide.{Effect, nothing, sendStatus, sendTemperatures, readLba, writeLba, beginFill}
+use Rattle.model.specs.Decide.{Writing, noWrite, oneSector, newFill, Sending, noData, status, temperatures, diskSector, Effect, Decision}
 
--- "A table is sent as it stands at the E1h read."
-abbrev pub temperatureTable : Device → List ℕ
-temperatureTable d = tableBytes (d .settings .logInterval .state) (d .thermal .index) (d .thermal .history)
+-- ---- what is written
 
 -- device and disk afterwards
-abbrev pub written : Effect → Volume → Volume
-written nothing v = v
-written sendStatus v = v
-written sendTemperatures v = v
-written (readLba lba) v = v
-written (writeLba lba sector) v = writeSector lba sector v
-written (beginFill first end sector) v = record { device = startFill first end (v .device); disk = v .disk }
+abbrev pub written : Writing → Volume → Volume
+written noWrite v = v
+written (oneSector lba sector) v = writeSector lba sector v
+written (newFill first end sector) v = record { device = startFill first end (v .device); disk = v .disk }
 
--- the sector that the reply carries; [] where it carries none
-abbrev pub sent : Effect → Volume → List ℕ
-sent nothing v = []
-sent sendStatus v = statusSector (v .device)
-sent sendTemperatures v = temperatureTable (v .device)
-sent (readLba lba) v = part (v .disk) (sectorSize * lba) sectorSize
-sent (writeLba lba sector) v = []
-sent (beginFill first end sector) v = []
+-- .. of a decision, on a disk
+abbrev pub volumeAfter : Decision → Disk → Volume
+volumeAfter c disk = written (c .effect .writes) (record { device = c .device; disk = disk })
 
 -- the sector of the fill, where one begins; otherwise the one that there was
-abbrev pub fillSectorAfter : Effect → List ℕ → List ℕ
-fillSectorAfter nothing old = old
-fillSectorAfter sendStatus old = old
-fillSectorAfter sendTemperatures old = old
-fillSectorAfter (readLba lba) old = old
-fillSectorAfter (writeLba lba sector) old = old
-fillSectorAfter (beginFill first end sector) old = sector
+abbrev pub fillSectorAfter : Writing → List ℕ → List ℕ
+fillSectorAfter noWrite old = old
+fillSectorAfter (oneSector lba sector) old = old
+fillSectorAfter (newFill first end sector) old = sector
 
--- The sectors that an effect may write, at once or by a fill that it begins: from the first up to the end. No rule of the base uses it; the laws
+-- The sectors that are written, at once or by a fill that begins: from the first up to the end. No rule of the base uses it; the laws
 -- that no hidden sector is written speak of it, and W-211 judges it.
 pub record Span : Type 0 where
   pub first : ℕ
   pub end : ℕ
 
-abbrev pub spanOf : Effect → Span
-spanOf nothing = record { first = 0; end = 0 }
-spanOf sendStatus = record { first = 0; end = 0 }
-spanOf sendTemperatures = record { first = 0; end = 0 }
-spanOf (readLba lba) = record { first = 0; end = 0 }
-spanOf (writeLba lba sector) = record { first = lba; end = suc lba }
-spanOf (beginFill first end sector) = record { first = first; end = end }
+abbrev pub spanOf : Writing → Span
+spanOf noWrite = record { first = 0; end = 0 }
+spanOf (oneSector lba sector) = record { first = lba; end = suc lba }
+spanOf (newFill first end sector) = record { first = first; end = end }
+
+-- ---- what is sent
+
+-- "A table is sent as it stands at the E1h read."
+abbrev pub temperatureTable : Device → List ℕ
+temperatureTable d = tableBytes (d .settings .logInterval .state) (d .thermal .index) (d .thermal .history)
+
+-- the content of the sector that is read; [] where none is
+abbrev pub contentRead : Sending → Disk → List ℕ
+contentRead noData disk = []
+contentRead status disk = []
+contentRead temperatures disk = []
+contentRead (diskSector lba) disk = sectorAt lba disk
+
+-- the data of a reply, of the device and of the content read
+abbrev pub sent : Sending → Device → List ℕ → List ℕ
+sent noData d content = []
+sent status d content = statusSector d
+sent temperatures d content = temperatureTable d
+sent (diskSector lba) d content = content
+
+-- The reply, of registers, effect and the content of the one sector that is read: no rule sees more of the disk.
+abbrev pub replyWith : Registers → Sending → Device → List ℕ → List ℕ
+replyWith r x d content = replyBytes r (sent x d content)
+
+abbrev pub replyOf : Decision → Volume → List ℕ
+replyOf c v = let x = c .effect .sends in replyWith (c .registers) x (v .device) (contentRead x (v .disk))

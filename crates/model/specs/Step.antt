@@ -7,20 +7,23 @@ use lib.Dec.{eqb, ltb}
 use Rattle.wire.specs.Choice.{between, Check, firstFailed, ifPassed}
 use Rattle.model.specs.Sizes.{sectorSize, portCount, mailboxSize, entrySize, done, badPort, badLength, badStage, badValue}
 use Rattle.model.specs.Device.{Device}
-use Rattle.model.specs.Registers.{replyBytes}
+use Rattle.model.specs.Disk.{Disk}
 use Rattle.model.specs.Fill.{Volume, workCount}
 use Rattle.model.specs.Fill.{work as workVolume}
-use Rattle.model.specs.Decide.{Decision, decide}
-use Rattle.model.specs.Perform.{written, sent, fillSectorAfter}
+use Rattle.model.specs.Decide.{Serving, Decision, decide}
+use Rattle.model.specs.Perform.{volumeAfter, fillSectorAfter, replyOf}
 use Rattle.model.specs.Owner.{setLock, sample as sampleDevice}
 use Rattle.model.specs.Owner.{setVisible as setVisibleDevice}
 use Rattle.model.specs.Image.{saveChecks, savedImage, powerOnChecks, restored}
 use Rattle.model.specs.Image.{powerOn as powerOnDevice}
 use Rattle.model.specs.Machine.{Port, empty, request, reply, Machine, machine, withPort, heldBytes}
 
--- what a serve is fed: a record, since W-211 adds a field
-pub record Serving : Type 0 where
-  pub port : ℕ
+-- the owner steps that change the device alone
+pub data OwnerStep : Type 0 where
+  lock : OwnerStep
+  unlock : OwnerStep
+  setVisible : ℕ → OwnerStep
+  sample : ℕ → OwnerStep
 
 -- "fed only port, n, V, reading, mailbox and image with its used length"
 pub data Step : Type 0 where
@@ -28,10 +31,7 @@ pub data Step : Type 0 where
   serve : Serving → Step
   give : ℕ → List ℕ → Step
   work : ℕ → Step
-  lock : Step
-  unlock : Step
-  setVisible : ℕ → Step
-  sample : ℕ → Step
+  owner : OwnerStep → Step
   save : List ℕ → ℕ → Step
   powerOn : List ℕ → ℕ → Step
 
@@ -65,19 +65,22 @@ isReply empty = false
 isReply (request m) = false
 isReply (reply m) = true
 
--- Port: "port above 3"; length: "a lent buffer isn't of its size"; stage: "slot not in the stage the step needs";
--- value: "V asked is 0 or above N".
+-- value: "V asked is 0 or above N"
+abbrev pub goodValue : OwnerStep → Device → Bool
+goodValue lock d = true
+goodValue unlock d = true
+goodValue (setVisible v) d = between 1 v (d .native)
+goodValue (sample reading) d = true
+
+-- Port: "port above 3"; length: "a lent buffer isn't of its size"; stage: "slot not in the stage the step needs".
 abbrev pub checks : Step → Machine → List Check
 checks (take p m) M = (eqb (length m) mailboxSize, badLength) ∷ (ltb p portCount, badPort) ∷ (isEmpty (M .ports p), badStage) ∷ []
 checks (serve s) M = (ltb (s .port) portCount, badPort) ∷ (isRequest (M .ports (s .port)), badStage) ∷ []
 checks (give p m) M = (eqb (length m) mailboxSize, badLength) ∷ (ltb p portCount, badPort) ∷ (isReply (M .ports p), badStage) ∷ []
 checks (work n) M = []
-checks lock M = []
-checks unlock M = []
-checks (setVisible v) M = (between 1 v (M .device .native), badValue) ∷ []
-checks (sample reading) M = []
+checks (owner x) M = (goodValue x (M .device), badValue) ∷ []
 checks (save image used) M = saveChecks (M .device .native) image used
-checks (powerOn image used) M = powerOnChecks (M .disk) image used
+checks (powerOn image used) M = powerOnChecks (M .disk .sectors) image used
 
 -- ---- what is seen
 
@@ -96,10 +99,7 @@ unchanged (take p m) n = answeredMailbox n m
 unchanged (serve s) n = answerOnly n
 unchanged (give p m) n = answeredMailbox n m
 unchanged (work k) n = answerOnly n
-unchanged lock n = answerOnly n
-unchanged unlock n = answerOnly n
-unchanged (setVisible v) n = answerOnly n
-unchanged (sample reading) n = answerOnly n
+unchanged (owner x) n = answerOnly n
 unchanged (save image used) n = answeredImage n image used
 unchanged (powerOn image used) n = answeredImage n image used
 
@@ -109,10 +109,7 @@ seenDone (take p m) M = unchanged (take p m) done
 seenDone (serve s) M = unchanged (serve s) done
 seenDone (give p m) M = answeredMailbox done (heldBytes (M .ports p))
 seenDone (work n) M = record { answer = done; count = workCount n (M .device .command .fill); mailbox = []; image = []; used = 0 }
-seenDone lock M = unchanged lock done
-seenDone unlock M = unchanged unlock done
-seenDone (setVisible v) M = unchanged (setVisible v) done
-seenDone (sample reading) M = unchanged (sample reading) done
+seenDone (owner x) M = unchanged (owner x) done
 seenDone (save image used) M = answeredImage done (savedImage (M .device) image used) (used + entrySize)
 seenDone (powerOn image used) M = unchanged (powerOn image used) done
 
@@ -124,37 +121,35 @@ volume M = record { device = M .device; disk = M .disk }
 -- "Serve carries it out whole by the rules above; the reply replaces it." It "answers the held request from the slot alone".
 unfoldable pub serveDecided : ℕ → Decision → Machine → Machine
 serveDecided p c M =
-    let decided : Volume = record { device = c .device; disk = M .disk } in
-    let v = written (c .effect) decided in
-    let answer = replyBytes (c .registers) (sent (c .effect) decided) in
-    machine (v .device) (fillSectorAfter (c .effect) (M .sector)) (withPort p (reply answer) (M .ports)) (v .disk)
+    let v = volumeAfter c (M .disk) in
+    machine (v .device) (fillSectorAfter (c .effect .writes) (M .sector)) (withPort p (reply (replyOf c v)) (M .ports)) (v .disk)
 
-unfoldable pub served : ℕ → Machine → Machine
-served p M = serveDecided p (decide p (heldBytes (M .ports p)) (M .device)) M
+unfoldable pub served : Serving → Machine → Machine
+served s M = serveDecided (s .port) (decide s (heldBytes (M .ports (s .port))) (M .device)) M
 
 -- "Work writes the fill's sector to the k places from next on and moves next by k"
 unfoldable pub worked : ℕ → Machine → Machine
 worked n M = let v = workVolume n (M .sector) (volume M) in machine (v .device) (M .sector) (M .ports) (v .disk)
 
--- a step on the device alone
-abbrev pub onDevice : (Device → Device) → Machine → Machine
-onDevice f M = machine (f (M .device)) (M .sector) (M .ports) (M .disk)
+-- "Owner steps go by their rules."
+abbrev pub ownerRule : OwnerStep → Device → Device
+ownerRule lock d = setLock true d
+ownerRule unlock d = setLock false d
+ownerRule (setVisible v) d = setVisibleDevice v d
+ownerRule (sample reading) d = sampleDevice reading d
 
 -- "slots empty": the machine after a power-on with this disk and image
-unfoldable pub poweredOn : List ℕ → List ℕ → ℕ → Machine
-poweredOn disk image used = machine (powerOnDevice (restored (length disk / sectorSize) image used)) [] (λ i. empty) disk
+unfoldable pub poweredOn : Disk → List ℕ → ℕ → Machine
+poweredOn disk image used = machine (powerOnDevice (restored (length (disk .sectors) / sectorSize) image used)) [] (λ i. empty) disk
 
 -- "Take copies all 528 bytes before anything is judged. Bytes torn by a core during the copy are simply the request."
--- "Take keeps the mailbox as the port's request. .. Give delivers it and clears the port. .. Owner steps go by their rules."
+-- "Take keeps the mailbox as the port's request. .. Give delivers it and clears the port."
 abbrev pub does : Step → Machine → Machine
 does (take p m) M = machine (M .device) (M .sector) (withPort p (request m) (M .ports)) (M .disk)
-does (serve s) M = served (s .port) M
+does (serve s) M = served s M
 does (give p m) M = machine (M .device) (M .sector) (withPort p empty (M .ports)) (M .disk)
 does (work n) M = worked n M
-does lock M = onDevice (setLock true) M
-does unlock M = onDevice (setLock false) M
-does (setVisible v) M = onDevice (setVisibleDevice v) M
-does (sample reading) M = onDevice (sampleDevice reading) M
+does (owner x) M = machine (ownerRule x (M .device)) (M .sector) (M .ports) (M .disk)
 does (save image used) M = M
 does (powerOn image used) M = poweredOn (M .disk) image used
 
@@ -175,5 +170,5 @@ trace f [] s = []
 trace f (x ∷ xs) s = f x s ∷ trace f xs (f x s .state)
 
 -- a first power-on: "Start with a power-on that answers 0", on any disk and image
-unfoldable pub firstAnswer : List ℕ → List ℕ → ℕ → ℕ
-firstAnswer disk image used = firstFailed (powerOnChecks disk image used)
+unfoldable pub firstAnswer : Disk → List ℕ → ℕ → ℕ
+firstAnswer disk image used = firstFailed (powerOnChecks (disk .sectors) image used)

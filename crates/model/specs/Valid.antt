@@ -7,10 +7,11 @@ use lib.ListN.{length}
 use Rattle.wire.specs.Bytes.{Bytes}
 use Rattle.model.specs.Sizes.{sectorSize, nativeLimit, portCount, mailboxSize, historySize}
 use Rattle.model.specs.Device.{Fill, idle, running, Transfer, none, table, fillData, Feature, Command, Settings, Thermal, Device}
+use Rattle.model.specs.Disk.{Disk}
 use Rattle.model.specs.Key.{highestState}
 use Rattle.model.specs.Fill.{runningCode}
 use Rattle.model.specs.Machine.{Port, empty, request, reply, Machine}
-use Rattle.model.specs.Step.{Step, take, serve, give, work, lock, unlock, setVisible, sample, save, powerOn}
+use Rattle.model.specs.Step.{OwnerStep, lock, unlock, setVisible, sample, Step, take, serve, give, work, owner, save, powerOn}
 
 -- "if a fill runs, first ≤ next < end ≤ V"
 abbrev pub FillValid : ℕ → Fill → Type 0
@@ -89,6 +90,10 @@ pub record Sized (n : ℕ) (l : List ℕ) : Type 0 where
   pub size : length l ≡ n
   pub bytes : Bytes l
 
+-- a disk of N sectors
+abbrev pub DiskValid : ℕ → Disk → Type 0
+DiskValid native disk = Sized (sectorSize * native) (disk .sectors)
+
 -- a fill has its sector, and without a fill there is none
 abbrev pub SectorValid : Fill → List ℕ → Type 0
 SectorValid idle sector = sector ≡ []
@@ -103,7 +108,13 @@ pub record MachineValid (M : Machine) : Type 0 where
   pub deviceValid : Valid (M .device)
   pub sectorValid : SectorValid (M .device .command .fill) (M .sector)
   pub portsValid : (p : ℕ) → PortValid (M .ports p)
-  pub diskValid : Sized (sectorSize * M .device .native) (M .disk)
+  pub diskValid : DiskValid (M .device .native) (M .disk)
+
+abbrev pub OwnerFed : OwnerStep → Type 0
+OwnerFed lock = Unit {0}
+OwnerFed unlock = Unit {0}
+OwnerFed (setVisible v) = Unit {0}
+OwnerFed (sample reading) = reading < 256
 
 -- What a step is fed are bytes: the mailbox of a take, a reading, the image of a power-on. Of a give's mailbox and a save's image the machine
 -- keeps nothing, so nothing is asked of them; ports, counts, V and used lengths are any numbers.
@@ -112,10 +123,7 @@ Fed (take p m) = Bytes m
 Fed (serve s) = Unit {0}
 Fed (give p m) = Unit {0}
 Fed (work n) = Unit {0}
-Fed lock = Unit {0}
-Fed unlock = Unit {0}
-Fed (setVisible v) = Unit {0}
-Fed (sample reading) = reading < 256
+Fed (owner x) = OwnerFed x
 Fed (save image used) = Unit {0}
 Fed (powerOn image used) = Bytes image
 

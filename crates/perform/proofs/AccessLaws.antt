@@ -17,7 +17,7 @@ use Rattle.model.specs.Device.{Device}
 use Rattle.model.specs.Update.{withInitialized}
 use Rattle.model.specs.Registers.{Direction, read, write, Registers, dataOf, good, refused, registersBytes, replyBytes}
 use Rattle.model.specs.Fill.{interrupt, writeSector}
-use Rattle.model.specs.Decide.{Decision, decision, nothing, readLba, writeLba, sectorChecks, sectorEffect, decideSector}
+use Rattle.model.specs.Decide.{Decision, decision, nothing, diskSector, sending, oneSector, writing, sectorChecks, sectorEffect, decideSector}
 use Rattle.model.proofs.RequestLaws.{interrupt-kept}
 use Rattle.store.specs.Areas.{slotPlace}
 use Rattle.store.specs.Record.{Stage, answered, Contents, decode, encode}
@@ -36,7 +36,7 @@ use Rattle.perform.proofs.KeyLaws.{slot-data}
 pub sector-read : (p lba : ℕ) (d : code.Device.Device) (h a disk r b : List ℕ) (q : Registers) → sectorSize * lba + sectorSize ≤ length disk → q ≡ good 0 0
     → r ≡ encode (withStage p answered (asContents d h))
     → b ≡ sets (sets a (slotPlace p) (registersBytes q)) (slotPlace p + 16) (part disk (sectorSize * lba) sectorSize)
-    → Served p (decision (asDevice d h) (good 0 0) (readLba lba)) (stagesOf (d .slots)) a disk r b disk
+    → Served p (decision (asDevice d h) (good 0 0) (sending (diskSector lba))) (stagesOf (d .slots)) a disk r b disk
 sector-read p lba d h a disk r b q fits registers er eb =
     let bytes = part disk (sectorSize * lba) sectorSize in
     record {
@@ -51,7 +51,7 @@ sector-read p lba d h a disk r b q fits registers er eb =
 pub sector-written : (p lba : ℕ) (d e : code.Device.Device) (h a disk r b newDisk : List ℕ) (q : Registers) → q ≡ good 0 0 → Changed (withInitialized false) d e
     → newDisk ≡ sets disk (sectorSize * lba) (part a (528 * p + 16) 512)
     → ServedBeside p (decision (asDevice e h) q nothing) (stagesOf (e .slots)) a r b
-    → Served p (decision (asDevice d h) (good 0 0) (writeLba lba (dataOf (slotBytes p a)))) (stagesOf (d .slots)) a disk r b newDisk
+    → Served p (decision (asDevice d h) (good 0 0) (writing (oneSector lba (dataOf (slotBytes p a))))) (stagesOf (d .slots)) a disk r b newDisk
 unfolding writeSector
 sector-written p lba d e h a disk r b newDisk q registers change written s =
     let t =

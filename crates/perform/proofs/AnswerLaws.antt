@@ -11,7 +11,7 @@ use Rattle.model.specs.Device.{Device}
 use Rattle.model.specs.Registers.{Registers, good, refusedWith, replyBytes}
 use Rattle.model.specs.Status.{statusSector}
 use Rattle.model.specs.Fill.{startFill}
-use Rattle.model.specs.Decide.{Decision, decision, nothing, sendStatus, decideStatus}
+use Rattle.model.specs.Decide.{Decision, decision, nothing, status, sending, decideStatus}
 use Rattle.store.specs.Areas.{slotPlace}
 use Rattle.store.specs.Record.{Stage, answered, Contents, decode, encode}
 use Rattle.store.specs.Entries.{withStage, withDevice}
@@ -86,10 +86,10 @@ changed-then f g d e x first second =
 
 module _ (x : Device) where
   status-locked : x .locked ≡ true → decision x (refusedWith 0x0012) nothing ≡ decideStatus x
-  status-locked l = sym (ap (λ (b : Bool). if b then decision x (refusedWith 0x0012) nothing else decision x (good 0 0) sendStatus) l)
+  status-locked l = sym (ap (λ (b : Bool). if b then decision x (refusedWith 0x0012) nothing else decision x (good 0 0) (sending status)) l)
 
-  status-open : x .locked ≡ false → decision x (good 0 0) sendStatus ≡ decideStatus x
-  status-open l = sym (ap (λ (b : Bool). if b then decision x (refusedWith 0x0012) nothing else decision x (good 0 0) sendStatus) l)
+  status-open : x .locked ≡ false → decision x (good 0 0) (sending status) ≡ decideStatus x
+  status-open l = sym (ap (λ (b : Bool). if b then decision x (refusedWith 0x0012) nothing else decision x (good 0 0) (sending status)) l)
 
 module _ (p : ℕ) (d : code.Device.Device) (h : List ℕ) (c : Contents) (says : asContents d h ≡ c) (a r b : List ℕ) where
   same-lock : (l : Bool) → d .locked ≡ l → c .device .locked ≡ l
@@ -109,7 +109,7 @@ module _ (p : ℕ) (d : code.Device.Device) (h : List ℕ) (c : Contents) (says 
       → ServedBeside p (decideStatus (c .device)) (c .stages) a r b
   status-sent l er eb =
       λ disk.
-      served-as p (decision (asDevice d h) (good 0 0) sendStatus) _ (stagesOf (d .slots)) _ a disk r b disk
-      ((λ i. decision (says i .device) (good 0 0) sendStatus) ∙ status-open (c .device) (same-lock false l))
+      served-as p (decision (asDevice d h) (good 0 0) (sending status)) _ (stagesOf (d .slots)) _ a disk r b disk
+      ((λ i. decision (says i .device) (good 0 0) (sending status)) ∙ status-open (c .device) (same-lock false l))
       (ap (λ (x : Contents). x .stages) says)
       (record { recordBytes = er; areaBytes = eb h; diskBytes = refl })

@@ -6,6 +6,6 @@ use Rattle.model.specs.Device.{Device}
 use Rattle.model.specs.Registers.{Request, requestOf}
 use Rattle.model.specs.Decide.{decideRequest, decide}
 
-pub decides : (p : ℕ) (m : List ℕ) (d : Device) (q : Request) → requestOf m ≡ q → decide p m d ≡ decideRequest q p m d
+pub decides : (p : ℕ) (m : List ℕ) (d : Device) (q : Request) → requestOf m ≡ q → decide (record { port = p }) m d ≡ decideRequest q (record { port = p }) m d
 unfolding decide
-decides p m d q e = ap (λ (x : Request). decideRequest x p m d) e
+decides p m d q e = ap (λ (x : Request). decideRequest x (record { port = p }) m d) e

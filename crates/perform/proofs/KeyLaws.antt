@@ -19,7 +19,7 @@ use Rattle.model.specs.Registers.{Registers, dataOf, good, refusedWith, replyBy
 use Rattle.model.specs.Key.{word, Action, Verdict, accepted, rejected, patternSector, judgeKey}
 use Rattle.model.specs.Fill.{interrupt, startFill}
 use Rattle.model.specs.Temperature.{tableHeadSize, emptyHistory}
-use Rattle.model.specs.Decide.{Decision, decision, nothing, beginFill, carryOut, decideVerdict, decideKey}
+use Rattle.model.specs.Decide.{Decision, decision, nothing, newFill, writing, carryOut, decideVerdict, decideKey}
 use Rattle.model.proofs.FormatLaws.{reply-length}
 use Rattle.model.proofs.RequestLaws.{interrupt-kept}
 use Rattle.store.specs.Areas.{headSize, slotSize, slotPlace, fillPlace}
@@ -53,7 +53,7 @@ sector-first a sector p q h =
 pub fill-served : (p first end : ℕ) (d : code.Device.Device) (h a sector r b : List ℕ) → p < 4
     → r ≡ encode (withStage p answered (withDevice (startFill first end (asDevice d h)) (asContents d h)))
     → b ≡ sets (sets a fillPlace sector) (slotPlace p) (replyBytes (good 0 0) [])
-    → ServedBeside p (decision (asDevice d h) (good 0 0) (beginFill first end sector)) (stagesOf (d .slots)) a r b
+    → ServedBeside p (decision (asDevice d h) (good 0 0) (writing (newFill first end sector))) (stagesOf (d .slots)) a r b
 fill-served p first end d h a sector r b port er eb =
     λ disk. record { recordBytes = er; areaBytes = eb ∙ sector-first a sector p (good 0 0) port; diskBytes = refl }
 

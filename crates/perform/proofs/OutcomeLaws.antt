@@ -8,7 +8,7 @@ use Rattle.wire.specs.Choice.{if_then_else_}
 use Rattle.model.specs.Device.{Fill, idle, running, Device}
 use Rattle.model.specs.Registers.{Registers, good}
 use Rattle.model.specs.Key.{FeatureName, writeCache, reordering, logInterval}
-use Rattle.model.specs.Decide.{decision, beginFill, carryOut}
+use Rattle.model.specs.Decide.{decision, newFill, writing, carryOut}
 use Rattle.model.specs.Temperature.{emptyHistory}
 use Rattle.store.specs.Record.{fillKind, fillFirst, fillEnd}
 use Rattle.record.specs.declared.device as code
@@ -72,9 +72,9 @@ module _ (p : ℕ) (d : Device) (sector : List ℕ) where
   begun-none (ReturnOption f) e = refl
   begun-none SendTable e = refl
 
-  pub begun-fill : (a : key.Action.Action) (first next end : ℕ) → begun a ≡ running first next end → carryOut (asAction a sector) p d ≡ decision d (good 0 0) (beginFill first end sector)
+  pub begun-fill : (a : key.Action.Action) (first next end : ℕ) → begun a ≡ running first next end → carryOut (asAction a sector) p d ≡ decision d (good 0 0) (writing (newFill first end sector))
   unfolding carryOut
-  begun-fill (FillPattern x y) first next end e = λ i. decision d (good 0 0) (beginFill (fillFirst (e i)) (fillEnd (e i)) sector)
+  begun-fill (FillPattern x y) first next end e = λ i. decision d (good 0 0) (writing (newFill (fillFirst (e i)) (fillEnd (e i)) sector))
   begun-fill (FillSector x y) first next end e = absurd (none-begun e)
   begun-fill (SetTimer dir n) first next end e = absurd (none-begun e)
   begun-fill (ReturnTimer dir) first next end e = absurd (none-begun e)

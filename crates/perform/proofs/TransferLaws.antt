@@ -15,7 +15,7 @@ use Rattle.model.specs.Device.{Fill, idle, running, Transfer, none, table, fill
 use Rattle.model.specs.Update.{withCode}
 use Rattle.model.specs.Registers.{Direction, read, write, Registers, dataOf, good, refusedWith, replyBytes}
 use Rattle.model.specs.Fill.{interrupt, startFill}
-use Rattle.model.specs.Decide.{Decision, decision, nothing, sendTemperatures, beginFill, moves, sectorsOf, dataChecks, transferEffect, pendingFor, decideData}
+use Rattle.model.specs.Decide.{Decision, decision, nothing, temperatures, sending, newFill, writing, moves, sectorsOf, dataChecks, transferEffect, pendingFor, decideData}
 use Rattle.model.specs.Perform.{temperatureTable}
 use Rattle.model.proofs.RequestLaws.{interrupt-kept}
 use Rattle.store.specs.Areas.{slotPlace, fillPlace}
@@ -44,10 +44,10 @@ moves-table dir table m b = refl
 moves-table dir (fillData first end) m b = absurd (let z : _≡_ {A = ℕ} 1 0 = ap fillKind b in omega arith)
 
 -- .. and one that begins a fill is that fill's
-begun-data : (t : Transfer) (first next end : ℕ) (sector : List ℕ) → begunBy t ≡ running first next end → transferEffect t sector ≡ beginFill first end sector
+begun-data : (t : Transfer) (first next end : ℕ) (sector : List ℕ) → begunBy t ≡ running first next end → transferEffect t sector ≡ writing (newFill first end sector)
 begun-data none first next end sector b = absurd (let z : _≡_ {A = ℕ} 0 1 = ap fillKind b in omega arith)
 begun-data table first next end sector b = absurd (let z : _≡_ {A = ℕ} 0 1 = ap fillKind b in omega arith)
-begun-data (fillData x y) first next end sector b = λ i. beginFill (fillFirst (b i)) (fillEnd (b i)) sector
+begun-data (fillData x y) first next end sector b = λ i. writing (newFill (fillFirst (b i)) (fillEnd (b i)) sector)
 
 module _ (r a : List ℕ) (p : ℕ) (d e f : code.Device.Device) (dir : Direction) (count n : ℕ) (t : Transfer) where
   abbrev old : Device
@@ -106,7 +106,7 @@ module _ (r a : List ℕ) (p : ℕ) (d e f : code.Device.Device) (dir : Directio
           let sends : temperatureTable (asDevice f (historyOf r)) ≡ part r 512 512 =
           ap temperatureTable (new-device ∙ ap (withCode n) (interrupt-kept old)) ∙ sym (sound-table r bytes s) in
           λ disk.
-          served-as p (decision (asDevice f (historyOf r)) (good 0 0) sendTemperatures) _ (stagesOf (f .slots)) _ a disk newRecord b disk
+          served-as p (decision (asDevice f (historyOf r)) (good 0 0) (sending temperatures)) _ (stagesOf (f .slots)) _ a disk newRecord b disk
           ((λ i. decision (new-device i) (good 0 0) (transferEffect (sym is i) sector)) ∙ decided-completed z)
           new-stages
           (record { recordBytes = er; areaBytes = eb ∙ ap (λ (l : List ℕ). sets a (slotPlace p) (replyBytes (good 0 0) l)) (sym sends); diskBytes = refl })

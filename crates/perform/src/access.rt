@@ -13,7 +13,7 @@ ghost use lib.ListN.{length};
 ghost use Rattle.model.specs.Sizes.{sectorSize};
 ghost use Rattle.model.specs.Registers.{dataOf, good};
 ghost use Rattle.model.specs.Fill.{interrupt};
-ghost use Rattle.model.specs.Decide.{decision, readLba, writeLba, sectorEffect, decideSector};
+ghost use Rattle.model.specs.Decide.{decision, diskSector, sending, oneSector, writing, sectorEffect, decideSector};
 ghost use Rattle.store.specs.Record.{decode};
 ghost use Rattle.store.specs.Store.{slotBytes};
 ghost use Rattle.record.specs.Meaning.{asDevice, stagesOf, historyOf};
@@ -23,7 +23,7 @@ ghost use Rattle.perform.specs.Served.{Served, Entered, Ready};
 // Leaves the registers of a good reply, and behind them the sector's bytes.
 fn read_sector(r: &mut [u8], area: &mut [u8], disk: &[u8], p: usize, d: Device, lba: u64)
     requires { ⌜ Ready (now r) (now area) p d × (sectorSize * lba + sectorSize ≤ length (now disk)) ⌝ }
-    ensures { λ _. ⌜ Served p (decision (asDevice d (historyOf (now (r .entry)))) (good 0 0) (readLba lba)) (stagesOf (d .slots)) (now (area .entry)) (now (disk .entry)) (now (r .exit)) (now (area .exit)) (now (disk .entry)) ⌝ }
+    ensures { λ _. ⌜ Served p (decision (asDevice d (historyOf (now (r .entry)))) (good 0 0) (sending (diskSector lba))) (stagesOf (d .slots)) (now (area .entry)) (now (disk .entry)) (now (r .exit)) (now (area .exit)) (now (disk .entry)) ⌝ }
 {
     let at = MAILBOX * p;
     reply::put_registers(area, at, reply::good(0, 0));
@@ -40,7 +40,7 @@ fn read_sector(r: &mut [u8], area: &mut [u8], disk: &[u8], p: usize, d: Device, 
 // "The Segment Initialized flag is cleared by any sector written"
 fn write_sector(r: &mut [u8], area: &mut [u8], disk: &mut [u8], p: usize, d: Device, lba: u64)
     requires { ⌜ Ready (now r) (now area) p d × (sectorSize * lba + sectorSize ≤ length (now disk)) ⌝ }
-    ensures { λ _. ⌜ Served p (decision (asDevice d (historyOf (now (r .entry)))) (good 0 0) (writeLba lba (dataOf (slotBytes p (now (area .entry)))))) (stagesOf (d .slots)) (now (area .entry)) (now (disk .entry)) (now (r .exit)) (now (area .exit)) (now (disk .exit)) ⌝ }
+    ensures { λ _. ⌜ Served p (decision (asDevice d (historyOf (now (r .entry)))) (good 0 0) (writing (oneSector lba (dataOf (slotBytes p (now (area .entry))))))) (stagesOf (d .slots)) (now (area .entry)) (now (disk .entry)) (now (r .exit)) (now (area .exit)) (now (disk .exit)) ⌝ }
 {
     wire::copy_part(
         disk,

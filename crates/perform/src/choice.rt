@@ -18,7 +18,7 @@ ghost use Rattle.perform.specs.Served.{Served, Entered};
 // "answers the held request from the slot alone and leaves the reply in the slot"
 pub fn serve(r: &mut [u8], area: &mut [u8], disk: &mut [u8], p: usize)
     requires { ⌜ Entered (now r) (now area) p × (length (now disk) ≡ sectorSize * decode (now r) .device .visible) ⌝ }
-    ensures { λ _. ⌜ Served p (decide p (slotBytes p (now (area .entry))) (decode (now (r .entry)) .device)) (decode (now (r .entry)) .stages) (now (area .entry)) (now (disk .entry)) (now (r .exit)) (now (area .exit)) (now (disk .exit)) ⌝ }
+    ensures { λ _. ⌜ Served p (decide (record { port = p }) (slotBytes p (now (area .entry))) (decode (now (r .entry)) .device)) (decode (now (r .entry)) .stages) (now (area .entry)) (now (disk .entry)) (now (r .exit)) (now (area .exit)) (now (disk .exit)) ⌝ }
 {
     let q = command::request_of(area, MAILBOX * p);
     match q {

@@ -20,7 +20,7 @@ ghost use Rattle.model.specs.Registers.{dataOf, good};
 ghost use Rattle.model.specs.Key.{word, patternSector};
 ghost use Rattle.model.specs.Update.{withKey};
 ghost use Rattle.model.specs.Fill.{interrupt};
-ghost use Rattle.model.specs.Decide.{decision, nothing, beginFill, carryOut, decideKey};
+ghost use Rattle.model.specs.Decide.{decision, nothing, newFill, writing, carryOut, decideKey};
 ghost use Rattle.store.specs.Record.{decode};
 ghost use Rattle.store.specs.Store.{slotBytes};
 ghost use Rattle.record.specs.Meaning.{asDevice, stagesOf, historyOf};
@@ -43,7 +43,7 @@ fn carry_out(r: &mut [u8], area: &mut [u8], p: usize, d: Device, action: Action)
 // "Pattern fill starts at once: bytes 20-23 repeated 128 times."
 fn begin_pattern(r: &mut [u8], area: &mut [u8], p: usize, d: Device, first: u64, end: u64)
     requires { ⌜ Ready (now r) (now area) p d ⌝ }
-    ensures { λ _. ⌜ ServedBeside p (decision (asDevice d (historyOf (now (r .entry)))) (good 0 0) (beginFill first end (patternSector (dataOf (slotBytes p (now (area .entry))))))) (stagesOf (d .slots)) (now (area .entry)) (now (r .exit)) (now (area .exit)) ⌝ }
+    ensures { λ _. ⌜ ServedBeside p (decision (asDevice d (historyOf (now (r .entry)))) (good 0 0) (writing (newFill first end (patternSector (dataOf (slotBytes p (now (area .entry)))))))) (stagesOf (d .slots)) (now (area .entry)) (now (r .exit)) (now (area .exit)) ⌝ }
 {
     fill::put_pattern(area, p);
     begin_fill(r, area, p, d, first, end);

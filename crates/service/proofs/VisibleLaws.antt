@@ -5,17 +5,16 @@ use mathlib.Core.List.{List, _++_}
 use Prim.Native.Nat.{ℕ, _+_, _*_, _≤_, _<_}
 use native.Mathlib.Omega.{arith}
 use lib.ListN.{length, take, drop, length-drop, take-append-drop}
-use lib.Seq.{sets, length-take-le, take-append-le, drop-append-le}
+use lib.Seq.{sets, length-sets, length-take-le, take-append-le, drop-append-le}
 use Rattle.wire.specs.Bytes.{Bytes}
 use Rattle.wire.specs.Parts.{part}
 use Rattle.wire.proofs.PartsLaws.{sets-front}
 use Rattle.model.specs.Sizes.{sectorSize}
 use Rattle.model.specs.Device.{Device}
-use Rattle.model.specs.Registers.{replyBytes}
 use Rattle.model.specs.Fill.{Volume, writeSector}
-use Rattle.model.specs.Decide.{Effect, nothing, sendStatus, sendTemperatures, readLba, writeLba, beginFill, Decision, decide}
-use Rattle.model.specs.Perform.{written, sent}
-use Rattle.model.proofs.ValidRequest.{EffectValid, DecisionValid, decide-valid}
+use Rattle.model.specs.Decide.{Writing, noWrite, oneSector, newFill, Sending, noData, status, temperatures, diskSector, Decision, decide}
+use Rattle.model.specs.Perform.{written, volumeAfter, contentRead, replyWith}
+use Rattle.model.proofs.ValidRequest.{WritingValid, SendingValid, DecisionValid, decide-valid}
 use Rattle.store.specs.Areas.{slotPlace, privateSize}
 use Rattle.store.specs.Record.{answered, decode, encode}
 use Rattle.store.specs.Store.{slotBytes}
@@ -60,44 +59,43 @@ part-front : (xs ys : List ℕ) (i m : ℕ) → i + m ≤ length xs → part (xs
 part-front xs ys i m h =
     ap (take m) (drop-append-le i xs ys (omega arith)) ∙ take-append-le m (drop i xs) ys (rw (length-drop i xs) (omega arith))
 
--- ---- an effect that lies on the visible disk
+-- ---- what is written lies on the visible disk
 
-module _ (d : Device) (seen hidden : List ℕ) where
+-- device and disk after a write on the visible part, and after the same write on the whole disk
+record SeenPart (seen hidden : List ℕ) (v whole : Volume) : Type 0 where
+  device : v .device ≡ whole .device
+  disk : v .disk .sectors ++ hidden ≡ whole .disk .sectors
+  size : length (v .disk .sectors) ≡ length seen
+
+module _ (seen hidden : List ℕ) (d : Device) (size : length seen ≡ sectorSize * d .visible) where
   abbrev on : List ℕ → Volume
-  on disk = record { device = d; disk = disk }
+  on sectors = record { device = d; disk = record { sectors = sectors } }
 
-  seen-device : (e : Effect) → written e (on seen) .device ≡ written e (on (seen ++ hidden)) .device
+  written-seen : (w : Writing) → WritingValid d w → SeenPart seen hidden (written w (on seen)) (written w (on (seen ++ hidden)))
   unfolding writeSector
-  seen-device nothing = refl
-  seen-device sendStatus = refl
-  seen-device sendTemperatures = refl
-  seen-device (readLba lba) = refl
-  seen-device (writeLba lba sector) = refl
-  seen-device (beginFill first end sector) = refl
+  written-seen noWrite k = record { device = refl; disk = refl; size = refl }
+  written-seen (oneSector lba sector) k =
+      record {
+        device = refl;
+        disk = sym (sets-front sector seen hidden (sectorSize * lba) (omega (arith, k .0, k .1 .size, size)));
+        size = length-sets seen (sectorSize * lba) sector;
+      }
+  written-seen (newFill first end sector) k = record { device = refl; disk = refl; size = refl }
 
-  module _ (size : length seen ≡ sectorSize * d .visible) where
-    seen-sent : (e : Effect) → EffectValid d e → sent e (on seen) ≡ sent e (on (seen ++ hidden))
-    seen-sent nothing k = refl
-    seen-sent sendStatus k = refl
-    seen-sent sendTemperatures k = refl
-    seen-sent (readLba lba) k = sym (part-front seen hidden (sectorSize * lba) sectorSize (omega (arith, k, size)))
-    seen-sent (writeLba lba sector) k = refl
-    seen-sent (beginFill first end sector) k = refl
-
-    seen-disk : (e : Effect) → EffectValid d e → written e (on seen) .disk ++ hidden ≡ written e (on (seen ++ hidden)) .disk
-    unfolding writeSector
-    seen-disk nothing k = refl
-    seen-disk sendStatus k = refl
-    seen-disk sendTemperatures k = refl
-    seen-disk (readLba lba) k = refl
-    seen-disk (writeLba lba sector) k = sym (sets-front sector seen hidden (sectorSize * lba) (omega (arith, k .0, k .1 .size, size)))
-    seen-disk (beginFill first end sector) k = refl
+  -- the sector that is read, after that
+  content-seen : (x : Sending) (v whole : Volume) → SendingValid (d .visible) x → SeenPart seen hidden v whole → contentRead x (v .disk) ≡ contentRead x (whole .disk)
+  content-seen noData v whole k s = refl
+  content-seen status v whole k s = refl
+  content-seen temperatures v whole k s = refl
+  content-seen (diskSector lba) v whole k s =
+      sym (part-front (v .disk .sectors) hidden (sectorSize * lba) sectorSize (omega (arith, k, size, s .size)))
+      ∙ ap (λ (l : List ℕ). part l (sectorSize * lba) sectorSize) (s .disk)
 
 -- ---- THE LAWS of serve
 
 module _ (r : List ℕ) (p : ℕ) (a disk : List ℕ) (e : ℕ) (s : Seen r a disk e) where
   abbrev decided : Decision
-  decided = decide p (slotBytes p a) (decode r .device)
+  decided = decide (record { port = p }) (slotBytes p a) (decode r .device)
 
   abbrev seen : List ℕ
   seen = take e disk
@@ -105,30 +103,38 @@ module _ (r : List ℕ) (p : ℕ) (a disk : List ℕ) (e : ℕ) (s : Seen r a di
   abbrev hidden : List ℕ
   hidden = drop e disk
 
-  pub serve-record : (b : List ℕ) → b ≡ serveDone r p a seen .recordArea → b ≡ serveDone r p a disk .recordArea
-  serve-record b h =
-      h
-      ∙ ap (λ (x : Device). encode (withStage p answered (withDevice x (decode r)))) (seen-device (decided .device) seen hidden (decided .effect))
-      ∙ ap (λ (l : List ℕ). serveDone r p a l .recordArea) (take-append-drop e disk)
-
   module _ (ab : Bytes a) (port : p < 4) where
     valid : DecisionValid (decode r .device) decided
     valid =
-        decide-valid p (slotBytes p a) (decode r .device) (sound-valid r (s .bytes) (s .passed .isSound) .device)
+        decide-valid (record { port = p }) (slotBytes p a) (decode r .device) (sound-valid r (s .bytes) (s .passed .isSound) .device)
         (slot-sized a p (record { size = s .passed .areaSized; bytes = ab }) port)
 
     same-size : length seen ≡ sectorSize * decided .device .visible
     same-size = s .size ∙ ap (λ (v : ℕ). sectorSize * v) (sym (valid .sameSizes .1))
 
+    after-seen : SeenPart seen hidden (volumeAfter decided (record { sectors = seen })) (volumeAfter decided (record { sectors = seen ++ hidden }))
+    after-seen = written-seen seen hidden (decided .device) same-size (decided .effect .writes) (valid .effectValid .0)
+
+    -- the whole disk is its two parts
+    joined : {A : Type 0} (f : List ℕ → A) → f (seen ++ hidden) ≡ f disk
+    joined f = ap f (take-append-drop e disk)
+
+    pub serve-record : (b : List ℕ) → b ≡ serveDone r p a seen .recordArea → b ≡ serveDone r p a disk .recordArea
+    serve-record b h =
+        h
+        ∙ ap (λ (x : Device). encode (withStage p answered (withDevice x (decode r)))) (after-seen .device)
+        ∙ joined (λ l. serveDone r p a l .recordArea)
+
     pub serve-area : (b : List ℕ) → b ≡ serveDone r p a seen .privateArea → b ≡ serveDone r p a disk .privateArea
     serve-area b h =
+        let x = decided .effect .sends in
         h
-        ∙ ap (λ (l : List ℕ). withFillSector (decided .effect) (sets a (slotPlace p) (replyBytes (decided .registers) l)))
-        (seen-sent (decided .device) seen hidden same-size (decided .effect) (valid .effectValid))
-        ∙ ap (λ (l : List ℕ). serveDone r p a l .privateArea) (take-append-drop e disk)
+        ∙ (λ i.
+        withFillSector (decided .effect .writes)
+        (sets a (slotPlace p)
+        (replyWith (decided .registers) x (after-seen .device i)
+        (content-seen seen hidden (decided .device) same-size x (volumeAfter decided (record { sectors = seen })) (volumeAfter decided (record { sectors = seen ++ hidden })) (valid .effectValid .1) after-seen i))))
+        ∙ joined (λ l. serveDone r p a l .privateArea)
 
     pub serve-disk : (b : List ℕ) → b ≡ serveDone r p a seen .disk → b ++ drop e disk ≡ serveDone r p a disk .disk
-    serve-disk b h =
-        ap (λ (l : List ℕ). l ++ drop e disk) h
-        ∙ seen-disk (decided .device) seen hidden same-size (decided .effect) (valid .effectValid)
-        ∙ ap (λ (l : List ℕ). serveDone r p a l .disk) (take-append-drop e disk)
+    serve-disk b h = ap (λ (l : List ℕ). l ++ drop e disk) h ∙ after-seen .disk ∙ joined (λ l. serveDone r p a l .disk)

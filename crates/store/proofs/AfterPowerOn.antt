@@ -10,6 +10,7 @@ use Rattle.wire.specs.Bytes.{Bytes}
 use Rattle.wire.proofs.ChoiceLaws.{all-pass}
 use Rattle.model.specs.Sizes.{portCount, mailboxSize}
 use Rattle.model.specs.Device.{Device}
+use Rattle.model.specs.Disk.{Disk}
 use Rattle.model.specs.Machine.{Machine, request}
 use Rattle.model.specs.Image.{savedFrom}
 use Rattle.model.specs.Step.{Step, take, save, checks, step}
@@ -49,7 +50,7 @@ pub record ReadBack (saved : Device) (on : PowerOnAfter) : Type 0 where
   pub answers : on .answer ≡ 0
   pub kept : KeptRules (savedFrom saved) (decode (on .recordArea) .device)
 
-module _ (r a disk image : List ℕ) (used : ℕ) (answers : powerOnBytes r a disk image used .answer ≡ 0) (diskBytes : Bytes disk) (imageBytes : Bytes image) where
+module _ (r a : List ℕ) (disk : Disk) (image : List ℕ) (used : ℕ) (answers : powerOnBytes r a (disk .sectors) image used .answer ≡ 0) (diskBytes : Bytes (disk .sectors)) (imageBytes : Bytes image) where
   abbrev start : Store
   start = started r a disk image used
 
@@ -76,7 +77,7 @@ module _ (r a disk image : List ℕ) (used : ℕ) (answers : powerOnBytes r a di
   -- THEOREM: an image saved after any list of steps is read back: a power-on from it answers 0, on that disk whatever was written to it since, and
   -- gives what was saved, as the power-on rules keep it.
   pub saved-back : (xs : List Step) → Each Fed xs → (i : List ℕ) (u : ℕ) → onStore (save i u) (storeAfter xs start) .seen .answer ≡ 0
-      → (anyRecord anyArea later : List ℕ) → length anyRecord ≡ recordSize → length anyArea ≡ privateSize → length later ≡ length (storeAfter xs start .disk)
+      → (anyRecord anyArea later : List ℕ) → length anyRecord ≡ recordSize → length anyArea ≡ privateSize → length later ≡ length (storeAfter xs start .disk .sectors)
       → ReadBack (decode (storeAfter xs start .recordArea) .device) (powerOnBytes anyRecord anyArea later (onStore (save i u) (storeAfter xs start) .seen .image) (onStore (save i u) (storeAfter xs start) .seen .used))
   saved-back xs fed i u saves r a later size private same =
       let v = valid-after xs fed in

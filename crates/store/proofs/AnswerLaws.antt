@@ -15,7 +15,7 @@ use Rattle.model.specs.Sizes.{sectorSize, nativeLimit, mailboxSize, entrySize}
 use Rattle.model.specs.Image.{wholeSectors, readable, sameDisk, savedImage}
 use Rattle.model.specs.Image.{saveChecks as savingChecks}
 use Rattle.model.specs.Machine.{Port, Machine, request}
-use Rattle.model.specs.Step.{Step, take, serve, give, work, lock, unlock, setVisible, sample, save, powerOn, Seen, Outcome, checks, unchanged, step}
+use Rattle.model.specs.Step.{Step, take, serve, give, work, owner, save, powerOn, Seen, Outcome, checks, unchanged, step}
 use Rattle.model.specs.Valid.{Fed, Each, MachineValid}
 use Rattle.model.proofs.StepLaws.{keepsOrder, answer-first, answer-is, step-done, step-refused}
 use Rattle.model.proofs.LimitLaws.{whole-sectors}
@@ -39,10 +39,7 @@ entry-order (take p m) s = (refl, omega arith)
 entry-order (serve x) s = (refl, omega arith)
 entry-order (give p m) s = (refl, omega arith)
 entry-order (work n) s = (refl, omega arith)
-entry-order lock s = (refl, omega arith)
-entry-order unlock s = (refl, omega arith)
-entry-order (setVisible v) s = (refl, omega arith)
-entry-order (sample reading) s = (refl, omega arith)
+entry-order (owner x) s = (refl, omega arith)
 entry-order (save image used) s = (refl, omega arith)
 entry-order (powerOn image used) s = (refl, omega arith)
 
@@ -51,10 +48,7 @@ done-answer (take p m) s = refl
 done-answer (serve x) s = refl
 done-answer (give p m) s = refl
 done-answer (work n) s = refl
-done-answer lock s = refl
-done-answer unlock s = refl
-done-answer (setVisible v) s = refl
-done-answer (sample reading) s = refl
+done-answer (owner x) s = refl
 done-answer (save image used) s = refl
 done-answer (powerOn image used) s = refl
 
@@ -92,10 +86,7 @@ LengthWrong (take p m) = length m ≡ mailboxSize → ⊥
 LengthWrong (serve x) = ⊥
 LengthWrong (give p m) = length m ≡ mailboxSize → ⊥
 LengthWrong (work n) = ⊥
-LengthWrong lock = ⊥
-LengthWrong unlock = ⊥
-LengthWrong (setVisible v) = ⊥
-LengthWrong (sample reading) = ⊥
+LengthWrong (owner x) = ⊥
 LengthWrong (save image used) = length image < used
 LengthWrong (powerOn image used) = length image < used
 
@@ -105,10 +96,7 @@ no-four (take p m) M = omega arith
 no-four (serve x) M = omega arith
 no-four (give p m) M = omega arith
 no-four (work n) M = tt
-no-four lock M = tt
-no-four unlock M = tt
-no-four (setVisible v) M = omega arith
-no-four (sample reading) M = tt
+no-four (owner x) M = omega arith
 no-four (save image used) M = omega arith
 no-four (powerOn image used) M = omega arith
 
@@ -120,7 +108,7 @@ behind-length false cs e h = refl
 never-two : (cs : List Check) → EachNumber (λ n. n ≡ 2 → ⊥) cs → firstFailed cs ≡ 2 → ⊥
 never-two cs e h = first-among (λ n. n ≡ 2 → ⊥) cs (λ z. omega arith) e h
 
-disk-whole : (M : Machine) → MachineValid M → wholeSectors (length (M .disk)) ≡ true
+disk-whole : (M : Machine) → MachineValid M → wholeSectors (length (M .disk .sectors)) ≡ true
 disk-whole M ok =
     let sizes = ok .deviceValid .sizes in
     rw (ok .diskValid .size, eq-eqb ((sectorSize * M .device .native) % sectorSize) 0 (omega arith))
@@ -136,10 +124,7 @@ only-length (serve x) M ok e = never-two (checks (serve x) M) (omega arith) e
 only-length (give p m) M ok e =
     eqb-false (length m) mailboxSize (behind-length (eqb (length m) mailboxSize) (drop 1 (checks (give p m) M)) (omega arith) e)
 only-length (work n) M ok e = absurd (omega arith)
-only-length lock M ok e = absurd (omega arith)
-only-length unlock M ok e = absurd (omega arith)
-only-length (setVisible v) M ok e = never-two (checks (setVisible v) M) (omega arith) e
-only-length (sample reading) M ok e = absurd (omega arith)
+only-length (owner x) M ok e = never-two (checks (owner x) M) (omega arith) e
 only-length (save image used) M ok e =
     leb-false used (length image) (behind-length (leb used (length image)) (drop 1 (checks (save image used) M)) (omega arith) e)
 only-length (powerOn image used) M ok e =
@@ -228,10 +213,7 @@ step-leaves p (take q m) s fed v l = tt
 step-leaves p (serve x) s fed v l = l
 step-leaves p (give q m) s fed v l = tt
 step-leaves p (work n) s fed v l = tt
-step-leaves p lock s fed v l = tt
-step-leaves p unlock s fed v l = tt
-step-leaves p (setVisible n) s fed v l = tt
-step-leaves p (sample reading) s fed v l = tt
+step-leaves p (owner x) s fed v l = tt
 step-leaves p (save image used) s fed v l = tt
 step-leaves p (powerOn image used) s fed v l = λ e. l (ap (λ (o : Seen). o .answer) (follows (powerOn image used) s fed v .seenSame) ∙ e)
 

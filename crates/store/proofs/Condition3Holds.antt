@@ -9,11 +9,12 @@ use Rattle.wire.specs.Parts.{zeros}
 use Rattle.wire.specs.Bytes.{Bytes}
 use Rattle.wire.proofs.ChoiceLaws.{Numbered, all-pass, pass-all}
 use Rattle.model.specs.Image.{powerOnChecks as diskChecks}
+use Rattle.model.specs.Disk.{Disk, hiddenPart}
 use Rattle.model.specs.Machine.{Machine}
 use Rattle.model.specs.Step.{Step, Outcome, Seen, poweredOn, firstAnswer, step, trace}
 use Rattle.model.specs.Valid.{Fed, Each, MachineValid}
 use Rattle.model.proofs.ValidStep.{power-on-machine}
-use Rattle.model.proofs.HiddenLaws.{step-hidden, hidden}
+use Rattle.model.proofs.HiddenLaws.{step-hidden}
 use Rattle.store.specs.Areas.{privateSize}
 use Rattle.store.specs.Record.{encode}
 use Rattle.store.specs.Store.{Store, machineOf}
@@ -40,7 +41,7 @@ unfolding machineOf
 list-hidden [] s fed v = tt
 list-hidden (x ∷ xs) s fed v =
     let f = follows x s (fed .0) v in (
-      ap (λ (N : Machine). hidden (machineOf s .device .visible) (N .disk)) (f .same) ∙ step-hidden x (machineOf s) (machine-valid s v),
+      ap (λ (N : Machine). hiddenPart (machineOf s .device .visible) (N .disk)) (f .same) ∙ step-hidden x (machineOf s) (machine-valid s v),
       list-hidden xs (onStore x s .state) (fed .1) (f .valid),
     )
 
@@ -50,32 +51,36 @@ passed : (n : ℕ) (x y : PowerOnAfter) → x .answer ≡ 0 → y .answer ≡ n 
 passed zero x y p q = p
 passed (suc n) x y p q = q
 
-module _ (r a disk image : List ℕ) (used : ℕ) where
-  numbered : Numbered 8 (powerOnChecks r a disk image used)
+module _ (r a sectors image : List ℕ) (used : ℕ) where
+  numbered : Numbered 8 (powerOnChecks r a sectors image used)
   numbered = omega arith
 
-  pub power-on-answer : powerOnBytes r a disk image used .answer ≡ firstFailed (powerOnChecks r a disk image used)
+  pub power-on-answer : powerOnBytes r a sectors image used .answer ≡ firstFailed (powerOnChecks r a sectors image used)
   unfolding powerOnBytes
   power-on-answer =
-      passed (firstFailed (powerOnChecks r a disk image used))
-      (powerOnDone disk image used)
-      (record { answer = firstFailed (powerOnChecks r a disk image used); recordArea = r; privateArea = a }) refl refl
+      passed (firstFailed (powerOnChecks r a sectors image used))
+      (powerOnDone sectors image used)
+      (record { answer = firstFailed (powerOnChecks r a sectors image used); recordArea = r; privateArea = a }) refl refl
 
-  module _ (answers : powerOnBytes r a disk image used .answer ≡ 0) where
-    on-passed : firstFailed (powerOnChecks r a disk image used) ≡ 0
-    on-passed = sym power-on-answer ∙ answers
+module _ (r a : List ℕ) (disk : Disk) (image : List ℕ) (used : ℕ) where
+  abbrev sectors : List ℕ
+  sectors = disk .sectors
+
+  module _ (answers : powerOnBytes r a sectors image used .answer ≡ 0) where
+    on-passed : firstFailed (powerOnChecks r a sectors image used) ≡ 0
+    on-passed = sym (power-on-answer r a sectors image used) ∙ answers
 
     -- the machine's power-on has fewer checks: those of disk and image
-    disk-passed : firstFailed (diskChecks disk image used) ≡ 0
-    disk-passed = pass-all (diskChecks disk image used) (all-pass 8 (powerOnChecks r a disk image used) numbered on-passed .1 .1)
+    disk-passed : firstFailed (diskChecks sectors image used) ≡ 0
+    disk-passed = pass-all (diskChecks sectors image used) (all-pass 8 (powerOnChecks r a sectors image used) (numbered r a sectors image used) on-passed .1 .1)
 
-    started-is : started r a disk image used ≡ store (encode (poweredContents disk image used)) (zeros privateSize) disk
+    started-is : started r a disk image used ≡ store (encode (poweredContents sectors image used)) (zeros privateSize) disk
     unfolding powerOnBytes
     started-is = rw on-passed
 
-    module _ (diskBytes : Bytes disk) (imageBytes : Bytes image) where
-      powered : StoreValid (store (encode (poweredContents disk image used)) (zeros privateSize) disk)
-          × (machineOf (store (encode (poweredContents disk image used)) (zeros privateSize) disk) ≡ poweredOn disk image used)
+    module _ (diskBytes : Bytes sectors) (imageBytes : Bytes image) where
+      powered : StoreValid (store (encode (poweredContents sectors image used)) (zeros privateSize) disk)
+          × (machineOf (store (encode (poweredContents sectors image used)) (zeros privateSize) disk) ≡ poweredOn disk image used)
       powered = powered-store disk image used (power-on-machine disk image used diskBytes imageBytes disk-passed)
 
       -- the bytes are valid after the power-on, and say the machine

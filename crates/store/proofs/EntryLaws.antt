@@ -5,77 +5,62 @@ use Prim.Native.Nat.{ℕ, suc}
 use mathlib.Core.List.{List, [], _∷_}
 use Rattle.wire.specs.Choice.{Check, firstFailed}
 use Rattle.model.specs.Sizes.{done}
-use Rattle.model.specs.Owner.{setLock}
-use Rattle.model.specs.Owner.{setVisible as setVisibleDevice, sample as sampleDevice}
-use Rattle.model.specs.Step.{Step, take, serve, give, work, lock, unlock, setVisible, sample, save, powerOn, Seen, Outcome, answerOnly, answeredMailbox, answeredImage, unchanged}
+use Rattle.model.specs.Step.{Step, take, serve, give, work, owner, save, powerOn, Seen, Outcome, answerOnly, answeredMailbox, answeredImage, unchanged, ownerRule}
 use Rattle.store.specs.Store.{Store}
-use Rattle.store.specs.Entries.{soundRecord, takeChecks, takeDone, takeBytes, serveChecks, serveDone, serveBytes, giveChecks, giveDone, giveBytes, workChecks, workDone, workBytes, ownerDone, lockBytes, unlockBytes, visibleChecks, setVisibleBytes, sampleBytes, saveChecks, saveDone, saveBytes, powerOnChecks, powerOnDone, powerOnBytes}
+use Rattle.store.specs.Entries.{takeChecks, takeDone, takeBytes, serveChecks, serveDone, serveBytes, giveChecks, giveDone, giveBytes, workChecks, workDone, workBytes, ownerChecks, ownerDone, ownerBytes, ownerEntry, saveChecks, saveDone, saveBytes, powerOnChecks, powerOnDone, powerOnBytes}
 use Rattle.store.specs.OnStore.{store, onStore}
 
 -- the checks of an entry
 abbrev pub storeChecks : Step → Store → List Check
 storeChecks (take p m) s = takeChecks (s .recordArea) p m (s .privateArea)
-storeChecks (serve x) s = serveChecks (s .recordArea) (x .port) (s .privateArea) (s .disk)
+storeChecks (serve x) s = serveChecks (s .recordArea) (x .port) (s .privateArea) (s .disk .sectors)
 storeChecks (give p m) s = giveChecks (s .recordArea) p m (s .privateArea)
-storeChecks (work n) s = workChecks (s .recordArea) (s .privateArea) (s .disk)
-storeChecks lock s = soundRecord (s .recordArea) ∷ []
-storeChecks unlock s = soundRecord (s .recordArea) ∷ []
-storeChecks (setVisible v) s = visibleChecks (s .recordArea) v
-storeChecks (sample reading) s = soundRecord (s .recordArea) ∷ []
+storeChecks (work n) s = workChecks (s .recordArea) (s .privateArea) (s .disk .sectors)
+storeChecks (owner x) s = ownerChecks x (s .recordArea)
 storeChecks (save image used) s = saveChecks (s .recordArea) image used
-storeChecks (powerOn image used) s = powerOnChecks (s .recordArea) (s .privateArea) (s .disk) image used
+storeChecks (powerOn image used) s = powerOnChecks (s .recordArea) (s .privateArea) (s .disk .sectors) image used
 
 -- what is left and seen of an entry that is done
 abbrev pub doneStore : Step → Store → Store
 doneStore (take p m) s = let o = takeDone (s .recordArea) p m (s .privateArea) in store (o .recordArea) (o .privateArea) (s .disk)
 doneStore (serve x) s =
-    let o = serveDone (s .recordArea) (x .port) (s .privateArea) (s .disk) in
-    store (o .recordArea) (o .privateArea) (o .disk)
+    let o = serveDone (s .recordArea) (x .port) (s .privateArea) (s .disk .sectors) in
+    store (o .recordArea) (o .privateArea) (record { sectors = o .disk })
 doneStore (give p m) s = store (giveDone (s .recordArea) p (s .privateArea) .recordArea) (s .privateArea) (s .disk)
-doneStore (work n) s = let o = workDone (s .recordArea) (s .privateArea) (s .disk) n in store (o .recordArea) (s .privateArea) (o .disk)
-doneStore lock s = store (ownerDone (setLock true) (s .recordArea) .recordArea) (s .privateArea) (s .disk)
-doneStore unlock s = store (ownerDone (setLock false) (s .recordArea) .recordArea) (s .privateArea) (s .disk)
-doneStore (setVisible v) s = store (ownerDone (setVisibleDevice v) (s .recordArea) .recordArea) (s .privateArea) (s .disk)
-doneStore (sample reading) s = store (ownerDone (sampleDevice reading) (s .recordArea) .recordArea) (s .privateArea) (s .disk)
+doneStore (work n) s =
+    let o = workDone (s .recordArea) (s .privateArea) (s .disk .sectors) n in
+    store (o .recordArea) (s .privateArea) (record { sectors = o .disk })
+doneStore (owner x) s = store (ownerDone (ownerRule x) (s .recordArea) .recordArea) (s .privateArea) (s .disk)
 doneStore (save image used) s = s
-doneStore (powerOn image used) s = let o = powerOnDone (s .disk) image used in store (o .recordArea) (o .privateArea) (s .disk)
+doneStore (powerOn image used) s = let o = powerOnDone (s .disk .sectors) image used in store (o .recordArea) (o .privateArea) (s .disk)
 
 abbrev pub doneSeen : Step → Store → Seen
 doneSeen (take p m) s = answeredMailbox done m
 doneSeen (serve x) s = answerOnly done
 doneSeen (give p m) s = answeredMailbox done (giveDone (s .recordArea) p (s .privateArea) .mailbox)
 doneSeen (work n) s =
-    record { answer = done; count = workDone (s .recordArea) (s .privateArea) (s .disk) n .count; mailbox = []; image = []; used = 0 }
-doneSeen lock s = answerOnly done
-doneSeen unlock s = answerOnly done
-doneSeen (setVisible v) s = answerOnly done
-doneSeen (sample reading) s = answerOnly done
+    record { answer = done; count = workDone (s .recordArea) (s .privateArea) (s .disk .sectors) n .count; mailbox = []; image = []; used = 0 }
+doneSeen (owner x) s = answerOnly done
 doneSeen (save image used) s = let o = saveDone (s .recordArea) image used in answeredImage done (o .image) (o .used)
 doneSeen (powerOn image used) s = answeredImage done image used
 
 -- THEOREM, condition 1: a nonzero answer leaves record, private area, disk, mailbox and image as they were, and work reports 0.
 pub on-refused : (x : Step) (s : Store) (n : ℕ) → firstFailed (storeChecks x s) ≡ suc n → onStore x s ≡ record { state = s; seen = unchanged x (suc n) }
-unfolding onStore takeBytes serveBytes giveBytes workBytes lockBytes unlockBytes setVisibleBytes sampleBytes saveBytes powerOnBytes
+unfolding onStore takeBytes serveBytes giveBytes workBytes saveBytes powerOnBytes
 on-refused (take p m) s n e = rw e
 on-refused (serve x) s n e = rw e
 on-refused (give p m) s n e = rw e
 on-refused (work k) s n e = rw e
-on-refused lock s n e = rw e
-on-refused unlock s n e = rw e
-on-refused (setVisible v) s n e = rw e
-on-refused (sample reading) s n e = rw e
+on-refused (owner x) s n e = rw e
 on-refused (save image used) s n e = rw e
 on-refused (powerOn image used) s n e = rw e
 
 pub on-done : (x : Step) (s : Store) → firstFailed (storeChecks x s) ≡ 0 → onStore x s ≡ record { state = doneStore x s; seen = doneSeen x s }
-unfolding onStore takeBytes serveBytes giveBytes workBytes lockBytes unlockBytes setVisibleBytes sampleBytes saveBytes powerOnBytes
+unfolding onStore takeBytes serveBytes giveBytes workBytes saveBytes powerOnBytes
 on-done (take p m) s e = rw e
 on-done (serve x) s e = rw e
 on-done (give p m) s e = rw e
 on-done (work k) s e = rw e
-on-done lock s e = rw e
-on-done unlock s e = rw e
-on-done (setVisible v) s e = rw e
-on-done (sample reading) s e = rw e
+on-done (owner x) s e = rw e
 on-done (save image used) s e = rw e
 on-done (powerOn image used) s e = rw e

@@ -10,7 +10,8 @@ use borrow.Author.Tests.{eqb-true, eq-eqb, ne-eqb, lt-ltb, le-ltb, lt-leb, le-le
 use Rattle.wire.specs.Choice.{firstFailed}
 use Rattle.model.specs.Image.{readable, sameDisk, hasRoom, wholeSectors}
 use Rattle.model.specs.Image.{powerOnChecks as diskChecks}
-use Rattle.model.specs.Step.{Step, Serving, take, serve, give, work, lock, unlock, setVisible, sample, save, powerOn}
+use Rattle.model.specs.Step.{setVisible, Step, take, serve, give, work, owner, save, powerOn}
+use Rattle.model.specs.Decide.{Serving}
 use Rattle.model.proofs.RefusalLaws.{power-on-disk, power-on-length, power-on-unreadable, power-on-other}
 use Rattle.store.specs.Record.{Stage, empty, held, answered, decode}
 use Rattle.store.specs.Sound.{sound}
@@ -40,10 +41,7 @@ JudgesRecord (take p m) = Unit {0}
 JudgesRecord (serve x) = Unit {0}
 JudgesRecord (give p m) = Unit {0}
 JudgesRecord (work n) = Unit {0}
-JudgesRecord lock = Unit {0}
-JudgesRecord unlock = Unit {0}
-JudgesRecord (setVisible v) = Unit {0}
-JudgesRecord (sample reading) = Unit {0}
+JudgesRecord (owner x) = Unit {0}
 JudgesRecord (save image used) = Unit {0}
 JudgesRecord (powerOn image used) = ⊥
 
@@ -52,10 +50,7 @@ unsound-record (take p m) s j e = entry-answer (take p m) s ∙ rw e
 unsound-record (serve x) s j e = entry-answer (serve x) s ∙ rw e
 unsound-record (give p m) s j e = entry-answer (give p m) s ∙ rw e
 unsound-record (work n) s j e = entry-answer (work n) s ∙ rw e
-unsound-record lock s j e = entry-answer lock s ∙ rw e
-unsound-record unlock s j e = entry-answer unlock s ∙ rw e
-unsound-record (setVisible v) s j e = entry-answer (setVisible v) s ∙ rw e
-unsound-record (sample reading) s j e = entry-answer (sample reading) s ∙ rw e
+unsound-record (owner x) s j e = entry-answer (owner x) s ∙ rw e
 unsound-record (save image used) s j e = entry-answer (save image used) s ∙ rw e
 unsound-record (powerOn image used) s j e = absurd j
 
@@ -85,12 +80,12 @@ module _ (s : Store) (isSound : sound (s .recordArea) ≡ true) where
 
   module _ (private : length (s .privateArea) ≡ 2624) where
     -- 2: "the disk isn't N sectors"
-    module _ (other : length (s .disk) ≡ 512 * decode (s .recordArea) .device .native → ⊥) where
+    module _ (other : length (s .disk .sectors) ≡ 512 * decode (s .recordArea) .device .native → ⊥) where
       pub serve-disk : (x : Serving) → answerOf (serve x) s ≡ 2
-      serve-disk x = entry-answer (serve x) s ∙ rw (isSound, eq-eqb (length (s .privateArea)) 2624 private, ne-eqb (length (s .disk)) (512 * decode (s .recordArea) .device .native) other)
+      serve-disk x = entry-answer (serve x) s ∙ rw (isSound, eq-eqb (length (s .privateArea)) 2624 private, ne-eqb (length (s .disk .sectors)) (512 * decode (s .recordArea) .device .native) other)
 
       pub work-disk : (n : ℕ) → answerOf (work n) s ≡ 2
-      work-disk n = entry-answer (work n) s ∙ rw (isSound, eq-eqb (length (s .privateArea)) 2624 private, ne-eqb (length (s .disk)) (512 * decode (s .recordArea) .device .native) other)
+      work-disk n = entry-answer (work n) s ∙ rw (isSound, eq-eqb (length (s .privateArea)) 2624 private, ne-eqb (length (s .disk .sectors)) (512 * decode (s .recordArea) .device .native) other)
 
     -- 1: "port above 3"; 3: "slot not in the stage the step needs"
     module _ (p : ℕ) (m : List ℕ) (mailbox : length m ≡ 528) where
@@ -106,23 +101,23 @@ module _ (s : Store) (isSound : sound (s .recordArea) ≡ true) where
       pub give-stage : p < 4 → isAnswered (stageFor p (decode (s .recordArea))) ≡ false → answerOf (give p m) s ≡ 3
       give-stage h k = entry-answer (give p m) s ∙ rw (isSound, eq-eqb (length m) 528 mailbox, eq-eqb (length (s .privateArea)) 2624 private, lt-ltb p 4 h, k)
 
-    module _ (x : Serving) (whole : length (s .disk) ≡ 512 * decode (s .recordArea) .device .native) where
+    module _ (x : Serving) (whole : length (s .disk .sectors) ≡ 512 * decode (s .recordArea) .device .native) where
       pub serve-port : 4 ≤ x .port → answerOf (serve x) s ≡ 1
       serve-port h =
           entry-answer (serve x) s
-          ∙ rw (isSound, eq-eqb (length (s .privateArea)) 2624 private, eq-eqb (length (s .disk)) (512 * decode (s .recordArea) .device .native) whole, le-ltb (x .port) 4 h)
+          ∙ rw (isSound, eq-eqb (length (s .privateArea)) 2624 private, eq-eqb (length (s .disk .sectors)) (512 * decode (s .recordArea) .device .native) whole, le-ltb (x .port) 4 h)
 
       pub serve-stage : x .port < 4 → isHeld (stageFor (x .port) (decode (s .recordArea))) ≡ false → answerOf (serve x) s ≡ 3
       serve-stage h k =
           entry-answer (serve x) s
-          ∙ rw (isSound, eq-eqb (length (s .privateArea)) 2624 private, eq-eqb (length (s .disk)) (512 * decode (s .recordArea) .device .native) whole, lt-ltb (x .port) 4 h, k)
+          ∙ rw (isSound, eq-eqb (length (s .privateArea)) 2624 private, eq-eqb (length (s .disk .sectors)) (512 * decode (s .recordArea) .device .native) whole, lt-ltb (x .port) 4 h, k)
 
   -- 5: "V asked is 0 or above N"
-  pub visible-zero : answerOf (setVisible 0) s ≡ 5
-  visible-zero = entry-answer (setVisible 0) s ∙ rw isSound
+  pub visible-zero : answerOf (owner (setVisible 0)) s ≡ 5
+  visible-zero = entry-answer (owner (setVisible 0)) s ∙ rw isSound
 
-  pub visible-above : (v : ℕ) → decode (s .recordArea) .device .native < v → answerOf (setVisible v) s ≡ 5
-  visible-above v h = entry-answer (setVisible v) s ∙ rw (isSound, le-leb 1 v (omega arith), lt-leb v (decode (s .recordArea) .device .native) h)
+  pub visible-above : (v : ℕ) → decode (s .recordArea) .device .native < v → answerOf (owner (setVisible v)) s ≡ 5
+  visible-above v h = entry-answer (owner (setVisible v)) s ∙ rw (isSound, le-leb 1 v (omega arith), lt-leb v (decode (s .recordArea) .device .native) h)
 
   -- save. 2: "an image's used length exceeds its buffer"
   module _ (image : List ℕ) (used : ℕ) where
@@ -153,19 +148,19 @@ module _ (image : List ℕ) (used : ℕ) (s : Store) where
 
     module _ (private : length (s .privateArea) ≡ 2624) where
       -- the answer is then the machine's: 2 for the disk and the used length, 6 and 7
-      on-areas : answerOf (powerOn image used) s ≡ firstFailed (diskChecks (s .disk) image used)
+      on-areas : answerOf (powerOn image used) s ≡ firstFailed (diskChecks (s .disk .sectors) image used)
       on-areas = entry-answer (powerOn image used) s ∙ rw (eq-eqb (length (s .recordArea)) 1024 size, eq-eqb (length (s .privateArea)) 2624 private)
 
-      pub on-disk : wholeSectors (length (s .disk)) ≡ false → answerOf (powerOn image used) s ≡ 2
-      on-disk e = on-areas ∙ power-on-disk (s .disk) image used e
+      pub on-disk : wholeSectors (length (s .disk .sectors)) ≡ false → answerOf (powerOn image used) s ≡ 2
+      on-disk e = on-areas ∙ power-on-disk (s .disk .sectors) image used e
 
-      module _ (whole : wholeSectors (length (s .disk)) ≡ true) where
+      module _ (whole : wholeSectors (length (s .disk .sectors)) ≡ true) where
         pub on-used : length image < used → answerOf (powerOn image used) s ≡ 2
-        on-used h = on-areas ∙ power-on-length (s .disk) image used whole h
+        on-used h = on-areas ∙ power-on-length (s .disk .sectors) image used whole h
 
         module _ (fits : used ≤ length image) where
           pub on-unreadable : readable image used ≡ false → answerOf (powerOn image used) s ≡ 6
-          on-unreadable e = on-areas ∙ power-on-unreadable (s .disk) image used whole fits e
+          on-unreadable e = on-areas ∙ power-on-unreadable (s .disk .sectors) image used whole fits e
 
-          pub on-other : readable image used ≡ true → sameDisk (length (s .disk) / 512) image used ≡ false → answerOf (powerOn image used) s ≡ 7
-          on-other read e = on-areas ∙ power-on-other (s .disk) image used whole fits read e
+          pub on-other : readable image used ≡ true → sameDisk (length (s .disk .sectors) / 512) image used ≡ false → answerOf (powerOn image used) s ≡ 7
+          on-other read e = on-areas ∙ power-on-other (s .disk .sectors) image used whole fits read e

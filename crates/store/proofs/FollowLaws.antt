@@ -17,9 +17,10 @@ use Rattle.wire.proofs.PartsLaws.{part-after, part-before, part-same, length-pa
 use Rattle.wire.proofs.BytesLaws.{bytes-part, bytes-sets, bytes-zeros}
 use Rattle.model.specs.Sizes.{sectorSize, portCount, mailboxSize}
 use Rattle.model.specs.Device.{Fill, idle, running, Device}
+use Rattle.model.specs.Disk.{Disk}
 use Rattle.model.specs.Machine.{Port, Machine, whileRunning, machine, withPort}
 use Rattle.model.specs.Machine.{empty as nothing, request, reply}
-use Rattle.model.specs.Valid.{SectorValid, PortValid, Sized, Valid, MachineValid}
+use Rattle.model.specs.Valid.{SectorValid, PortValid, Sized, DiskValid, Valid, MachineValid}
 use Rattle.store.specs.Areas.{slotSize, slotPlace, fillPlace, privateSize}
 use Rattle.store.specs.Record.{Stage, empty, held, answered, Contents, encode, decode}
 use Rattle.store.specs.Sound.{sound}
@@ -33,7 +34,7 @@ pub record StoreValid (s : Store) : Type 0 where
   pub isSound : sound (s .recordArea) ≡ true
   pub recordBytes : Bytes (s .recordArea)
   pub private : Sized privateSize (s .privateArea)
-  pub disk : Sized (sectorSize * decode (s .recordArea) .device .native) (s .disk)
+  pub disk : DiskValid (decode (s .recordArea) .device .native) (s .disk)
 
 pub contents-valid : (s : Store) → StoreValid s → ContentsValid (decode (s .recordArea))
 contents-valid s v = sound-valid (s .recordArea) (v .recordBytes) (v .isSound)
@@ -60,7 +61,7 @@ port-says empty b v = tt
 port-says held b v = v
 port-says answered b v = v
 
-machine-from-valid : (c : Contents) (a disk : List ℕ) → ContentsValid c → Sized privateSize a → Sized (sectorSize * c .device .native) disk
+machine-from-valid : (c : Contents) (a : List ℕ) (disk : Disk) → ContentsValid c → Sized privateSize a → DiskValid (c .device .native) disk
     → MachineValid (machineFrom c a disk)
 machine-from-valid c a disk v p k =
     record {
@@ -80,18 +81,18 @@ machine-valid s v = machine-from-valid (decode (s .recordArea)) (s .privateArea)
 
 -- ---- a record that is written
 
-pub machine-encoded : (c : Contents) (a disk : List ℕ) → ContentsValid c → machineOf (store (encode c) a disk) ≡ machineFrom c a disk
+pub machine-encoded : (c : Contents) (a : List ℕ) (disk : Disk) → ContentsValid c → machineOf (store (encode c) a disk) ≡ machineFrom c a disk
 unfolding machineOf
 machine-encoded c a disk v = ap (λ (x : Contents). machineFrom x a disk) (decode-encode c (valid-fits c v))
 
-pub store-encoded : (c : Contents) (a disk : List ℕ) → ContentsValid c → Sized privateSize a → Sized (sectorSize * c .device .native) disk
+pub store-encoded : (c : Contents) (a : List ℕ) (disk : Disk) → ContentsValid c → Sized privateSize a → DiskValid (c .device .native) disk
     → StoreValid (store (encode c) a disk)
 store-encoded c a disk v p k =
     record {
       isSound = sound-encode c v;
       recordBytes = bytes-encode c (valid-fits c v);
       private = p;
-      disk = subst (λ (x : Contents). Sized (sectorSize * x .device .native) disk) (sym (decode-encode c (valid-fits c v))) k;
+      disk = subst (λ (x : Contents). DiskValid (x .device .native) disk) (sym (decode-encode c (valid-fits c v))) k;
     }
 
 -- ---- slots

@@ -46,14 +46,14 @@ module _ (s : Store) (v : StoreValid s) (image : List ℕ) (used : ℕ) (saves :
   saved-is = ap (λ (o : Outcome Store). o .seen) (on-done (save image used) s passed)
 
   -- what is read back is what was saved
-  contents-back : (disk : List ℕ) → length disk ≡ length (s .disk) → poweredContents disk (saved .image) (saved .used) ≡ restoredContents (savedFrom device)
+  contents-back : (disk : List ℕ) → length disk ≡ length (s .disk .sectors) → poweredContents disk (saved .image) (saved .used) ≡ restoredContents (savedFrom device)
   contents-back disk same =
       let native : length disk / sectorSize ≡ device .native = rw (same ∙ v .disk .size) (omega arith) in
       ap restoredContents
       (rw saved-is
       (ap (λ (n : ℕ). restored n (savedImage device image used) (used + entrySize)) native ∙ restored-saved device image used device-valid checked))
 
-  module _ (r a disk : List ℕ) (size : length r ≡ recordSize) (private : length a ≡ privateSize) (same : length disk ≡ length (s .disk)) where
+  module _ (r a disk : List ℕ) (size : length r ≡ recordSize) (private : length a ≡ privateSize) (same : length disk ≡ length (s .disk .sectors)) where
     on-passed : firstFailed (powerOnChecks r a disk (saved .image) (saved .used)) ≡ 0
     on-passed =
         rw (saved-is, eq-eqb (length r) recordSize size, eq-eqb (length a) privateSize private)

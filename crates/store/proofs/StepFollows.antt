@@ -17,25 +17,24 @@ use Rattle.wire.proofs.PartsLaws.{part-same, length-zeros}
 use Rattle.wire.proofs.BytesLaws.{bytes-sets, bytes-zeros}
 use Rattle.model.specs.Sizes.{sectorSize, portCount, mailboxSize}
 use Rattle.model.specs.Device.{Fill, idle, running, Device}
-use Rattle.model.specs.Registers.{Registers, replyBytes}
+use Rattle.model.specs.Disk.{Disk}
 use Rattle.model.specs.Fill.{Volume, writeSector, interrupt, sectorStep, iterate, workCount}
 use Rattle.model.specs.Fill.{work as workVolume}
-use Rattle.model.specs.Decide.{Effect, nothing, sendStatus, sendTemperatures, readLba, writeLba, beginFill, Decision, decide}
-use Rattle.model.specs.Perform.{written, sent, fillSectorAfter}
+use Rattle.model.specs.Decide.{Serving, Writing, noWrite, oneSector, newFill, Decision, decide}
+use Rattle.model.specs.Perform.{written, volumeAfter, fillSectorAfter, replyOf}
 use Rattle.model.specs.Owner.{setLock}
 use Rattle.model.specs.Owner.{setVisible as setVisibleDevice, sample as sampleDevice}
 use Rattle.model.specs.Image.{restored}
 use Rattle.model.specs.Image.{powerOn as powerOnDevice}
 use Rattle.model.specs.Machine.{Port, request, reply, Machine, whileRunning, machine, withPort, heldBytes}
 use Rattle.model.specs.Machine.{empty as noRequest}
-use Rattle.model.specs.Step.{Step, Serving, take, serve, give, work, lock, unlock, setVisible, sample, save, powerOn, Outcome, checks, unchanged, seenDone, does, volume, served, serveDecided, worked, poweredOn, step}
-use Rattle.model.specs.Valid.{Sized, Valid, MachineValid, Fed}
+use Rattle.model.specs.Step.{OwnerStep, lock, unlock, setVisible, sample, Step, take, serve, give, work, owner, save, powerOn, ownerRule, Outcome, checks, unchanged, seenDone, does, volume, served, serveDecided, worked, poweredOn, step}
+use Rattle.model.specs.Valid.{Sized, DiskValid, Valid, MachineValid, OwnerFed, Fed}
 use Rattle.model.proofs.StepLaws.{step-done, step-refused, answers-numbered}
 use Rattle.model.proofs.OwnerLaws.{interrupt-quiet}
 use Rattle.model.proofs.RequestLaws.{interrupt-kept}
-use Rattle.model.proofs.FormatLaws.{reply-sized}
-use Rattle.model.proofs.ValidRequest.{EffectValid, DecisionValid, decide-valid}
-use Rattle.model.proofs.ValidStep.{does-valid, sent-valid, decided-volume, serve-valid}
+use Rattle.model.proofs.ValidRequest.{WritingValid, DecisionValid, decide-valid}
+use Rattle.model.proofs.ValidStep.{does-valid, reply-valid, serve-valid}
 use Rattle.store.specs.Areas.{recordSize, slotSize, slotPlace, fillPlace, privateSize}
 use Rattle.store.specs.Record.{Stage, empty, held, answered, Contents, encode, decode}
 use Rattle.store.specs.Store.{Store, portOf, slotBytes, fillSectorOf, stageFor, machineFrom, machineOf}
@@ -58,7 +57,7 @@ idle-any : (f : Fill) (s t : List ℕ) → f ≡ idle → whileRunning f s ≡ w
 idle-any f s t e = rw e
 
 -- a machine is its parts
-machine-path : (d : Device) (s t : List ℕ) (ports ports′ : ℕ → Port) (disk : List ℕ)
+machine-path : (d : Device) (s t : List ℕ) (ports ports′ : ℕ → Port) (disk : Disk)
     → whileRunning (d .command .fill) s ≡ whileRunning (d .command .fill) t → ((i : ℕ) → ports i ≡ ports′ i) → machine d s ports disk ≡ machine d t ports′ disk
 machine-path d s t ports ports′ disk e f = λ j. record { device = d; sector = e j; ports = fun-ext f j; disk = disk }
 
@@ -101,17 +100,14 @@ checks-same (serve x) s v =
     rw (
       v .isSound,
       eq-eqb (length (s .privateArea)) privateSize (v .private .size),
-      eq-eqb (length (s .disk)) _ (v .disk .size),
+      eq-eqb (length (s .disk .sectors)) _ (v .disk .size),
       held-says (stageFor (x .port) (decode (s .recordArea))) (slotBytes (x .port) (s .privateArea)),
     )
 checks-same (give p m) s v =
     rw (v .isSound, eq-eqb (length (s .privateArea)) privateSize (v .private .size), answered-says (stageFor p (decode (s .recordArea))) (slotBytes p (s .privateArea)))
 checks-same (work n) s v =
-    rw (v .isSound, eq-eqb (length (s .privateArea)) privateSize (v .private .size), eq-eqb (length (s .disk)) _ (v .disk .size))
-checks-same lock s v = rw (v .isSound)
-checks-same unlock s v = rw (v .isSound)
-checks-same (setVisible n) s v = rw (v .isSound)
-checks-same (sample reading) s v = rw (v .isSound)
+    rw (v .isSound, eq-eqb (length (s .privateArea)) privateSize (v .private .size), eq-eqb (length (s .disk .sectors)) _ (v .disk .size))
+checks-same (owner x) s v = rw (v .isSound)
 checks-same (save image used) s v = rw (v .isSound)
 checks-same (powerOn image used) s v =
     rw (eq-eqb (length (s .recordArea)) recordSize (sound-parts (s .recordArea) (v .isSound) .size), eq-eqb (length (s .privateArea)) privateSize (v .private .size))
@@ -122,50 +118,38 @@ checks-same (powerOn image used) s v =
 stored-sized : (a x : List ℕ) (at : ℕ) → Sized privateSize a → Bytes x → Sized privateSize (sets a at x)
 stored-sized a x at v b = record { size = length-sets a at x ∙ v .size; bytes = bytes-sets x a at (v .bytes) b }
 
--- ---- an effect on the fill sector
+-- ---- what is written, and the fill sector
 
--- the private area's fill sector after an effect
-fill-after : (e : Effect) (d : Device) (b : List ℕ) → EffectValid d e → length b ≡ privateSize → fillSectorOf (withFillSector e b) ≡ fillSectorAfter e (fillSectorOf b)
-fill-after nothing d b k h = refl
-fill-after sendStatus d b k h = refl
-fill-after sendTemperatures d b k h = refl
-fill-after (readLba lba) d b k h = refl
-fill-after (writeLba lba sector) d b k h = refl
-fill-after (beginFill first end sector) d b k h = part-same sector b fillPlace sectorSize (k .2 .size) (omega arith)
+-- the private area's fill sector afterwards
+fill-after : (w : Writing) (d : Device) (b : List ℕ) → WritingValid d w → length b ≡ privateSize → fillSectorOf (withFillSector w b) ≡ fillSectorAfter w (fillSectorOf b)
+fill-after noWrite d b k h = refl
+fill-after (oneSector lba sector) d b k h = refl
+fill-after (newFill first end sector) d b k h = part-same sector b fillPlace sectorSize (k .2 .size) (omega arith)
 
 -- .. and every slot as it was
-ports-after : (e : Effect) (ss : List Stage) (b : List ℕ) → length ss ≡ 4 → (i : ℕ)
-    → portOf (getD ss i empty) (slotBytes i (withFillSector e b)) ≡ portOf (getD ss i empty) (slotBytes i b)
-ports-after nothing ss b h i = refl
-ports-after sendStatus ss b h i = refl
-ports-after sendTemperatures ss b h i = refl
-ports-after (readLba lba) ss b h i = refl
-ports-after (writeLba lba sector) ss b h i = refl
-ports-after (beginFill first end sector) ss b h i = ports-fill ss b sector h i
+ports-after : (w : Writing) (ss : List Stage) (b : List ℕ) → length ss ≡ 4 → (i : ℕ)
+    → portOf (getD ss i empty) (slotBytes i (withFillSector w b)) ≡ portOf (getD ss i empty) (slotBytes i b)
+ports-after noWrite ss b h i = refl
+ports-after (oneSector lba sector) ss b h i = refl
+ports-after (newFill first end sector) ss b h i = ports-fill ss b sector h i
 
-after-sized : (e : Effect) (d : Device) (b : List ℕ) → EffectValid d e → Sized privateSize b → Sized privateSize (withFillSector e b)
-after-sized nothing d b k v = v
-after-sized sendStatus d b k v = v
-after-sized sendTemperatures d b k v = v
-after-sized (readLba lba) d b k v = v
-after-sized (writeLba lba sector) d b k v = v
-after-sized (beginFill first end sector) d b k v = stored-sized b sector fillPlace v (k .2 .bytes)
+after-sized : (w : Writing) (d : Device) (b : List ℕ) → WritingValid d w → Sized privateSize b → Sized privateSize (withFillSector w b)
+after-sized noWrite d b k v = v
+after-sized (oneSector lba sector) d b k v = v
+after-sized (newFill first end sector) d b k v = stored-sized b sector fillPlace v (k .2 .bytes)
 
 forgotten : (g f : Fill) (s : List ℕ) → (g ≡ idle) ⊎ (g ≡ f) → whileRunning g s ≡ whileRunning g (whileRunning f s)
 forgotten g f s (inl e) = idle-any g s (whileRunning f s) e
 forgotten g f s (inr e) = rw e (sym (kept-once f s))
 
 -- the machine has the same sector, whether or not it forgot one that no fill used
-sector-after : (e : Effect) (d : Device) (disk s : List ℕ) (f : Fill) → (d .command .fill ≡ idle) ⊎ (d .command .fill ≡ f)
-    → whileRunning (written e (record { device = d; disk = disk }) .device .command .fill) (fillSectorAfter e s)
-    ≡ whileRunning (written e (record { device = d; disk = disk }) .device .command .fill) (fillSectorAfter e (whileRunning f s))
+sector-after : (w : Writing) (v : Volume) (s : List ℕ) (f : Fill) → (v .device .command .fill ≡ idle) ⊎ (v .device .command .fill ≡ f)
+    → whileRunning (written w v .device .command .fill) (fillSectorAfter w s)
+    ≡ whileRunning (written w v .device .command .fill) (fillSectorAfter w (whileRunning f s))
 unfolding writeSector
-sector-after (beginFill first end sector) d disk s f k = refl
-sector-after nothing d disk s f k = forgotten (d .command .fill) f s k
-sector-after sendStatus d disk s f k = forgotten (d .command .fill) f s k
-sector-after sendTemperatures d disk s f k = forgotten (d .command .fill) f s k
-sector-after (readLba lba) d disk s f k = forgotten (d .command .fill) f s k
-sector-after (writeLba lba sector) d disk s f k = forgotten (d .command .fill) f s k
+sector-after noWrite v s f k = forgotten (v .device .command .fill) f s k
+sector-after (oneSector lba sector) v s f k = forgotten (v .device .command .fill) f s k
+sector-after (newFill first end sector) v s f k = refl
 
 all-empty : (n i : ℕ) → getD (replicate n empty) i empty ≡ empty
 all-empty zero zero = refl
@@ -183,12 +167,12 @@ idle-work n sector v e = ap (λ (k : ℕ). iterate k (sectorStep sector) v) none
     none = unfold workCount in (rw e (omega arith))
 
 -- the bytes that a power-on leaves say the machine at power-on
-pub powered-store : (disk image : List ℕ) (used : ℕ) → MachineValid (poweredOn disk image used)
-    → StoreValid (store (encode (poweredContents disk image used)) (zeros privateSize) disk)
-    × (machineOf (store (encode (poweredContents disk image used)) (zeros privateSize) disk) ≡ poweredOn disk image used)
+pub powered-store : (disk : Disk) (image : List ℕ) (used : ℕ) → MachineValid (poweredOn disk image used)
+    → StoreValid (store (encode (poweredContents (disk .sectors) image used)) (zeros privateSize) disk)
+    × (machineOf (store (encode (poweredContents (disk .sectors) image used)) (zeros privateSize) disk) ≡ poweredOn disk image used)
 unfolding poweredOn powerOnDevice
 powered-store disk image used w =
-    let c = poweredContents disk image used in
+    let c = poweredContents (disk .sectors) image used in
     let cv : ContentsValid c = record { device = w .deviceValid; four = refl } in (
       store-encoded c (zeros privateSize) disk cv (record { size = length-zeros privateSize; bytes = bytes-zeros privateSize }) (w .diskValid),
       machine-encoded c (zeros privateSize) disk cv
@@ -268,14 +252,14 @@ module _ (s : Store) (v : StoreValid s) where
 
   -- a decision performed on the bytes is the decision performed on the machine
   module _ (p : ℕ) (port : p < portCount) (k : Decision) (kv : DecisionValid (c .device) k) where
-    abbrev pub decided : Volume
-    decided = record { device = k .device; disk = s .disk }
-
-    abbrev after : Volume
-    after = written (k .effect) decided
+    abbrev pub after : Volume
+    after = volumeAfter k (s .disk)
 
     abbrev pub answer : List ℕ
-    answer = replyBytes (k .registers) (sent (k .effect) decided)
+    answer = replyOf k after
+
+    abbrev writes : Writing
+    writes = k .effect .writes
 
     abbrev next : Contents
     next = withStage p answered (withDevice (after .device) c)
@@ -289,9 +273,7 @@ module _ (s : Store) (v : StoreValid s) where
 
     pub answer-sized : Sized mailboxSize answer
     unfolding machineOf
-    answer-sized =
-        let w = sent-valid (k .effect) decided (decided-volume p k M m-valid kv) (kv .effectValid) in
-        reply-sized (k .registers) (sent (k .effect) decided) (w .0) (w .1)
+    answer-sized = reply-valid p k M m-valid kv
 
     next-valid : ContentsValid next
     unfolding serveDecided machineOf
@@ -300,20 +282,20 @@ module _ (s : Store) (v : StoreValid s) where
     area-sized : Sized privateSize area
     area-sized = stored-sized a answer (slotPlace p) (v .private) (answer-sized .bytes)
 
-    serve-store : StoreValid (store (encode next) (withFillSector (k .effect) area) (after .disk))
+    serve-store : StoreValid (store (encode next) (withFillSector writes area) (after .disk))
     unfolding serveDecided machineOf
     serve-store =
-        store-encoded next (withFillSector (k .effect) area) (after .disk) next-valid
-        (after-sized (k .effect) (k .device) area (kv .effectValid) area-sized) (served-valid .diskValid)
+        store-encoded next (withFillSector writes area) (after .disk) next-valid
+        (after-sized writes (k .device) area (kv .effectValid .0) area-sized) (served-valid .diskValid)
 
-    serve-machine : machineOf (store (encode next) (withFillSector (k .effect) area) (after .disk)) ≡ serveDecided p k M
+    serve-machine : machineOf (store (encode next) (withFillSector writes area) (after .disk)) ≡ serveDecided p k M
     unfolding serveDecided machineOf
     serve-machine =
-        machine-encoded next (withFillSector (k .effect) area) (after .disk) next-valid
-        ∙ machine-path (after .device) (fillSectorOf (withFillSector (k .effect) area)) (fillSectorAfter (k .effect) (whileRunning (c .device .command .fill) (fillSectorOf a))) _ _ (after .disk)
-        (ap (whileRunning (after .device .command .fill)) (fill-after (k .effect) (k .device) area (kv .effectValid) (area-sized .size) ∙ ap (fillSectorAfter (k .effect)) (slot-fill a answer p (answer-sized .size) port))
-        ∙ sector-after (k .effect) (k .device) (s .disk) (fillSectorOf a) (c .device .command .fill) (kv .sameFill))
-        (λ i. ports-after (k .effect) (set (c .stages) p answered) area (length-set (c .stages) p answered ∙ four) i
+        machine-encoded next (withFillSector writes area) (after .disk) next-valid
+        ∙ machine-path (after .device) (fillSectorOf (withFillSector writes area)) (fillSectorAfter writes (whileRunning (c .device .command .fill) (fillSectorOf a))) _ _ (after .disk)
+        (ap (whileRunning (after .device .command .fill)) (fill-after writes (k .device) area (kv .effectValid .0) (area-sized .size) ∙ ap (fillSectorAfter writes) (slot-fill a answer p (answer-sized .size) port))
+        ∙ sector-after writes (record { device = k .device; disk = s .disk }) (fillSectorOf a) (c .device .command .fill) (kv .sameFill))
+        (λ i. ports-after writes (set (c .stages) p answered) area (length-set (c .stages) p answered ∙ four) i
         ∙ ports-set (c .stages) a answer p answered four port (answer-sized .size) (v .private .size) i)
 
   serve-done : (x : Serving) → firstFailed (checks (serve x) M) ≡ 0 → Done (serve x) s
@@ -322,29 +304,29 @@ module _ (s : Store) (v : StoreValid s) where
       let p = x .port in
       let pass = all-pass 8 (checks (serve x) M) (answers-numbered (serve x) M) e in
       let port = ltb-true p portCount (pass .0) in
-      let k = decide p (slotBytes p a) (c .device) in
-      let kv = decide-valid p (slotBytes p a) (c .device) (c-valid .device) (slot-sized a p (v .private) port) in
+      let k = decide x (slotBytes p a) (c .device) in
+      let kv = decide-valid x (slotBytes p a) (c .device) (c-valid .device) (slot-sized a p (v .private) port) in
       let request-is = held-bytes (stageFor p c) (slotBytes p a) (sym (held-says (stageFor p c) (slotBytes p a)) ∙ pass .1 .0) in
       record {
         valid = serve-store p port k kv;
-        same = serve-machine p port k kv ∙ ap (λ (m : List ℕ). serveDecided p (decide p m (c .device)) M) (sym request-is);
+        same = serve-machine p port k kv ∙ ap (λ (m : List ℕ). serveDecided p (decide x m (c .device)) M) (sym request-is);
         seenSame = refl;
       }
 
   -- ---- work
 
-  abbrev volumeAfter : ℕ → List ℕ → Volume
-  volumeAfter n sector = workVolume n sector (record { device = c .device; disk = s .disk })
+  abbrev workAfter : ℕ → List ℕ → Volume
+  workAfter n sector = workVolume n sector (record { device = c .device; disk = s .disk })
 
   -- whether or not the machine forgot a sector that no fill used, the work is the same ..
-  work-sector : (n : ℕ) (f : Fill) → c .device .command .fill ≡ f → volumeAfter n (fillSectorOf a) ≡ volumeAfter n (whileRunning f (fillSectorOf a))
+  work-sector : (n : ℕ) (f : Fill) → c .device .command .fill ≡ f → workAfter n (fillSectorOf a) ≡ workAfter n (whileRunning f (fillSectorOf a))
   work-sector n idle e = idle-work n (fillSectorOf a) _ e ∙ sym (idle-work n [] _ e)
   work-sector n (running first next end) e = refl
 
   -- .. and so is the machine
   work-machine : (n : ℕ) (f : Fill) (ports : ℕ → Port) → c .device .command .fill ≡ f
-      → machine (volumeAfter n (fillSectorOf a) .device) (fillSectorOf a) ports (volumeAfter n (fillSectorOf a) .disk)
-      ≡ machine (volumeAfter n (whileRunning f (fillSectorOf a)) .device) (whileRunning f (fillSectorOf a)) ports (volumeAfter n (whileRunning f (fillSectorOf a)) .disk)
+      → machine (workAfter n (fillSectorOf a) .device) (fillSectorOf a) ports (workAfter n (fillSectorOf a) .disk)
+      ≡ machine (workAfter n (whileRunning f (fillSectorOf a)) .device) (whileRunning f (fillSectorOf a)) ports (workAfter n (whileRunning f (fillSectorOf a)) .disk)
   work-machine n (running first next end) ports e = refl
   work-machine n idle ports e =
       ap (λ (x : Volume). machine (x .device) (fillSectorOf a) ports (x .disk)) (idle-work n (fillSectorOf a) _ e)
@@ -357,9 +339,9 @@ module _ (s : Store) (v : StoreValid s) where
       let f = c .device .command .fill in
       let w = does-valid (work n) M tt m-valid refl in
       let back = sym (work-sector n f refl) in
-      let x = volumeAfter n (fillSectorOf a) in
+      let x = workAfter n (fillSectorOf a) in
       let dv : Valid (x .device) = subst (λ (y : Volume). Valid (y .device)) back (w .deviceValid) in
-      let kv : Sized (sectorSize * x .device .native) (x .disk) = subst (λ (y : Volume). Sized (sectorSize * y .device .native) (y .disk)) back (w .diskValid) in
+      let kv : DiskValid (x .device .native) (x .disk) = subst (λ (y : Volume). DiskValid (y .device .native) (y .disk)) back (w .diskValid) in
       let cv : ContentsValid (withDevice (x .device) c) = record { device = dv; four = four } in
       record {
         valid = store-encoded (withDevice (x .device) c) a (x .disk) cv (v .private) kv;
@@ -387,24 +369,23 @@ module _ (s : Store) (v : StoreValid s) where
   native-kept : interrupt (c .device) .native ≡ c .device .native
   native-kept = ap (λ (d : Device). d .native) (interrupt-kept (c .device))
 
-  lock-done : (b : Bool) → MachineValid (machine (setLock b (M .device)) (M .sector) (M .ports) (M .disk))
-      → StoreValid (store (encode (withDevice (setLock b (c .device)) c)) a (s .disk))
-      × (machineOf (store (encode (withDevice (setLock b (c .device)) c)) a (s .disk)) ≡ machine (setLock b (c .device)) (M .sector) (M .ports) (s .disk))
-  unfolding machineOf setLock
-  lock-done b w = device-done (setLock b (c .device)) (w .deviceValid) native-kept (interrupted (setLock b (c .device)) (interrupt-quiet (c .device) .noFill))
+  -- N stays, and the fill sector is that of the fill, if it still runs
+  owner-keeps : (x : OwnerStep)
+      → (ownerRule x (c .device) .native ≡ c .device .native)
+      × (whileRunning (ownerRule x (c .device) .command .fill) (fillSectorOf a)
+      ≡ whileRunning (ownerRule x (c .device) .command .fill) (whileRunning (c .device .command .fill) (fillSectorOf a)))
+  unfolding setLock setVisibleDevice sampleDevice
+  owner-keeps lock = (native-kept, interrupted (setLock true (c .device)) (interrupt-quiet (c .device) .noFill))
+  owner-keeps unlock = (native-kept, interrupted (setLock false (c .device)) (interrupt-quiet (c .device) .noFill))
+  owner-keeps (setVisible n) = (native-kept, interrupted (setVisibleDevice n (c .device)) (interrupt-quiet (c .device) .noFill))
+  owner-keeps (sample reading) = (refl, sym (kept-once (c .device .command .fill) (fillSectorOf a)))
 
-  visible-done : (n : ℕ) → firstFailed (checks (setVisible n) M) ≡ 0 → Done (setVisible n) s
-  unfolding machineOf setVisibleDevice
-  visible-done n e =
-      let w = does-valid (setVisible n) M tt m-valid e in
-      let k = device-done (setVisibleDevice n (c .device)) (w .deviceValid) native-kept (interrupted (setVisibleDevice n (c .device)) (interrupt-quiet (c .device) .noFill)) in
-      record { valid = k .0; same = k .1; seenSame = refl }
-
-  sample-done : (reading : ℕ) → reading < 256 → Done (sample reading) s
-  unfolding machineOf sampleDevice
-  sample-done reading h =
-      let w = does-valid (sample reading) M h m-valid refl in
-      let k = device-done (sampleDevice reading (c .device)) (w .deviceValid) refl (sym (kept-once (c .device .command .fill) (fillSectorOf a))) in
+  owner-done : (x : OwnerStep) → OwnerFed x → firstFailed (checks (owner x) M) ≡ 0 → Done (owner x) s
+  unfolding machineOf
+  owner-done x fed e =
+      let w = does-valid (owner x) M fed m-valid e in
+      let keeps = owner-keeps x in
+      let k = device-done (ownerRule x (c .device)) (w .deviceValid) (keeps .0) (keeps .1) in
       record { valid = k .0; same = k .1; seenSame = refl }
 
   power-on-done : (image : List ℕ) (used : ℕ) → Bytes image → firstFailed (checks (powerOn image used) M) ≡ 0 → Done (powerOn image used) s
@@ -416,23 +397,12 @@ module _ (s : Store) (v : StoreValid s) where
 
 -- ---- any step
 
-lock-follows : (s : Store) (v : StoreValid s) → Done lock s
-unfolding machineOf
-lock-follows s v = let k = lock-done s v true (does-valid lock (machineOf s) tt (machine-valid s v) refl) in record { valid = k .0; same = k .1; seenSame = refl }
-
-unlock-follows : (s : Store) (v : StoreValid s) → Done unlock s
-unfolding machineOf
-unlock-follows s v = let k = lock-done s v false (does-valid unlock (machineOf s) tt (machine-valid s v) refl) in record { valid = k .0; same = k .1; seenSame = refl }
-
 done-follows : (x : Step) (s : Store) → Fed x → StoreValid s → firstFailed (checks x (machineOf s)) ≡ 0 → Done x s
 done-follows (take p m) s fed v e = take-done s v p m fed e
 done-follows (serve x) s fed v e = serve-done s v x e
 done-follows (give p m) s fed v e = give-done s v p m e
 done-follows (work n) s fed v e = work-done s v n
-done-follows lock s fed v e = lock-follows s v
-done-follows unlock s fed v e = unlock-follows s v
-done-follows (setVisible n) s fed v e = visible-done s v n e
-done-follows (sample reading) s fed v e = sample-done s v reading fed
+done-follows (owner x) s fed v e = owner-done s v x fed e
 done-follows (save image used) s fed v e = record { valid = v; same = refl; seenSame = unfold machineOf in refl }
 done-follows (powerOn image used) s fed v e = power-on-done s v image used fed e
 

@@ -12,11 +12,9 @@ use Rattle.wire.specs.Parts.{part, zeros}
 use Rattle.wire.proofs.ChoiceLaws.{all-pass, pass-all}
 use Rattle.wire.proofs.NumbersLaws.{getD-sets-before, getD-sets-after}
 use Rattle.model.specs.Sizes.{sectorSize, portCount, mailboxSize, entrySize}
-use Rattle.model.specs.Registers.{replyBytes}
-use Rattle.model.specs.Fill.{Volume}
-use Rattle.model.specs.Decide.{Effect, nothing, sendStatus, sendTemperatures, readLba, writeLba, beginFill, Decision, decide}
-use Rattle.model.specs.Perform.{sent}
-use Rattle.model.specs.Step.{Step, Serving, take, serve, give, work, lock, unlock, setVisible, sample, save, powerOn, Outcome}
+use Rattle.model.specs.Decide.{Serving, Writing, noWrite, oneSector, newFill, Decision, decide}
+use Rattle.model.specs.Perform.{volumeAfter, replyOf}
+use Rattle.model.specs.Step.{OwnerStep, Step, take, serve, give, work, owner, save, powerOn, Outcome}
 use Rattle.store.specs.Areas.{slotSize, slotPlace, fillPlace, privateSize}
 use Rattle.store.specs.Record.{decode}
 use Rattle.store.specs.Store.{Store, slotBytes}
@@ -63,9 +61,9 @@ pub work-leaves : (n : ℕ) (s : Store) → PrivateKept (work n) s
 unfolding onStore
 work-leaves n s = record { kept = refl }
 
-pub owner-leaves : (v reading : ℕ) (s : Store) → PrivateKept lock s × PrivateKept unlock s × PrivateKept (setVisible v) s × PrivateKept (sample reading) s
+pub owner-leaves : (x : OwnerStep) (s : Store) → PrivateKept (owner x) s
 unfolding onStore
-owner-leaves v reading s = (record { kept = refl }, record { kept = refl }, record { kept = refl }, record { kept = refl })
+owner-leaves x s = record { kept = refl }
 
 -- save: record, private area and disk stay
 pub save-leaves : (image : List ℕ) (used : ℕ) (s : Store) → onStore (save image used) s .state ≡ s
@@ -73,10 +71,9 @@ unfolding onStore
 save-leaves image used s = refl
 
 -- the owner steps leave the disk
-pub owner-disk : (v reading : ℕ) (s : Store)
-    → (onStore lock s .state .disk ≡ s .disk) × (onStore unlock s .state .disk ≡ s .disk) × (onStore (setVisible v) s .state .disk ≡ s .disk) × (onStore (sample reading) s .state .disk ≡ s .disk)
+pub owner-disk : (x : OwnerStep) (s : Store) → onStore (owner x) s .state .disk ≡ s .disk
 unfolding onStore
-owner-disk v reading s = (refl, refl, refl, refl)
+owner-disk x s = refl
 
 -- "private area all zeros"
 pub power-on-zeroes : (image : List ℕ) (used : ℕ) (s : Store) → onStore (powerOn image used) s .seen .answer ≡ 0
@@ -84,51 +81,42 @@ pub power-on-zeroes : (image : List ℕ) (used : ℕ) (s : Store) → onStore (p
 power-on-zeroes image used s answers = rw (on-done (powerOn image used) s (passed (powerOn image used) s answers))
 
 -- serve: the other slots stay, and the fill sector unless a fill begins
-abbrev pub BeginsFill : Effect → Type 0
-BeginsFill nothing = ⊥
-BeginsFill sendStatus = ⊥
-BeginsFill sendTemperatures = ⊥
-BeginsFill (readLba lba) = ⊥
-BeginsFill (writeLba lba sector) = ⊥
-BeginsFill (beginFill first end sector) = Unit {0}
+abbrev pub BeginsFill : Writing → Type 0
+BeginsFill noWrite = ⊥
+BeginsFill (oneSector lba sector) = ⊥
+BeginsFill (newFill first end sector) = Unit {0}
 
-fill-left : (e : Effect) (b : List ℕ) → (BeginsFill e → ⊥) → withFillSector e b ≡ b
-fill-left nothing b ne = refl
-fill-left sendStatus b ne = refl
-fill-left sendTemperatures b ne = refl
-fill-left (readLba lba) b ne = refl
-fill-left (writeLba lba sector) b ne = refl
-fill-left (beginFill first end sector) b ne = absurd (ne tt)
+fill-left : (w : Writing) (b : List ℕ) → (BeginsFill w → ⊥) → withFillSector w b ≡ b
+fill-left noWrite b ne = refl
+fill-left (oneSector lba sector) b ne = refl
+fill-left (newFill first end sector) b ne = absurd (ne tt)
 
-fill-before : (e : Effect) (b : List ℕ) (i : ℕ) → i < fillPlace → getD (withFillSector e b) i 0 ≡ getD b i 0
-fill-before nothing b i h = refl
-fill-before sendStatus b i h = refl
-fill-before sendTemperatures b i h = refl
-fill-before (readLba lba) b i h = refl
-fill-before (writeLba lba sector) b i h = refl
-fill-before (beginFill first end sector) b i h = getD-sets-before sector b fillPlace i h
+fill-before : (w : Writing) (b : List ℕ) (i : ℕ) → i < fillPlace → getD (withFillSector w b) i 0 ≡ getD b i 0
+fill-before noWrite b i h = refl
+fill-before (oneSector lba sector) b i h = refl
+fill-before (newFill first end sector) b i h = getD-sets-before sector b fillPlace i h
 
 module _ (x : Serving) (s : Store) (v : StoreValid s) (answers : onStore (serve x) s .seen .answer ≡ 0) where
   abbrev decision : Decision
-  decision = decide (x .port) (slotBytes (x .port) (s .privateArea)) (decode (s .recordArea) .device)
+  decision = decide x (slotBytes (x .port) (s .privateArea)) (decode (s .recordArea) .device)
 
   abbrev reply : List ℕ
-  reply = replyBytes (decision .registers) (sent (decision .effect) (record { device = decision .device; disk = s .disk }))
+  reply = replyOf decision (volumeAfter decision (s .disk))
 
   reply-size : length reply ≡ slotSize
   reply-size =
       let port = ltb-true (x .port) portCount (all-pass 8 (storeChecks (serve x) s) (omega arith) (passed (serve x) s answers) .1 .1 .1 .0) in
       let valid =
-      decide-valid (x .port) (slotBytes (x .port) (s .privateArea)) (decode (s .recordArea) .device) (contents-valid s v .device)
+      decide-valid x (slotBytes (x .port) (s .privateArea)) (decode (s .recordArea) .device) (contents-valid s v .device)
       (slot-sized (s .privateArea) (x .port) (v .private) port) in
       answer-sized s v (x .port) port decision valid .size
 
   pub serve-leaves-slots : (i : ℕ) → i < fillPlace → OutsideSlot (x .port) i → getD (onStore (serve x) s .state .privateArea) i 0 ≡ getD (s .privateArea) i 0
   serve-leaves-slots i h out =
       rw (on-done (serve x) s (passed (serve x) s answers))
-      (fill-before (decision .effect) (sets (s .privateArea) (slotPlace (x .port)) reply) i h ∙ slot-stored (s .privateArea) reply (x .port) i reply-size out)
+      (fill-before (decision .effect .writes) (sets (s .privateArea) (slotPlace (x .port)) reply) i h ∙ slot-stored (s .privateArea) reply (x .port) i reply-size out)
 
-  pub serve-leaves-sector : (i : ℕ) → (BeginsFill (decision .effect) → ⊥) → OutsideSlot (x .port) i → getD (onStore (serve x) s .state .privateArea) i 0 ≡ getD (s .privateArea) i 0
+  pub serve-leaves-sector : (i : ℕ) → (BeginsFill (decision .effect .writes) → ⊥) → OutsideSlot (x .port) i → getD (onStore (serve x) s .state .privateArea) i 0 ≡ getD (s .privateArea) i 0
   serve-leaves-sector i none out =
-      rw (on-done (serve x) s (passed (serve x) s answers), fill-left (decision .effect) (sets (s .privateArea) (slotPlace (x .port)) reply) none)
+      rw (on-done (serve x) s (passed (serve x) s answers), fill-left (decision .effect .writes) (sets (s .privateArea) (slotPlace (x .port)) reply) none)
       (slot-stored (s .privateArea) reply (x .port) i reply-size out)

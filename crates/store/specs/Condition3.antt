@@ -1,9 +1,8 @@
 -- The statement of condition 3 of document 00.
 use mathlib.Core.Path.{_≡_}
-use Prim.Native.Nat.{ℕ, _*_}
+use Prim.Native.Nat.{ℕ}
 use mathlib.Core.List.{List, [], _∷_, map}
-use lib.ListN.{drop}
-use Rattle.model.specs.Sizes.{sectorSize}
+use Rattle.model.specs.Disk.{Disk, hiddenPart}
 use Rattle.model.specs.Machine.{Machine}
 use Rattle.wire.specs.Bytes.{Bytes}
 use Rattle.model.specs.Step.{Step, Outcome, poweredOn, firstAnswer, step, trace}
@@ -19,21 +18,21 @@ asMachine o = record { state = machineOf (o .state); seen = o .seen }
 -- "No sector outside the visible disk of that moment is ever written; all of these keep their bytes.": V is that before the step.
 abbrev pub keptHidden : Store → Store → Type 0
 keptHidden before after =
-    let from = sectorSize * machineOf before .device .visible in
-    drop from (after .disk) ≡ drop from (before .disk)
+    let visible = machineOf before .device .visible in
+    hiddenPart visible (after .disk) ≡ hiddenPart visible (before .disk)
 
 abbrev pub HiddenKept : List Step → Store → Type 0
 HiddenKept [] s = Unit {0}
 HiddenKept (x ∷ xs) s = keptHidden s (onStore x s .state) × HiddenKept xs (onStore x s .state)
 
 -- the bytes after a first power-on, whatever record and private area held
-abbrev pub started : List ℕ → List ℕ → List ℕ → List ℕ → ℕ → Store
+abbrev pub started : List ℕ → List ℕ → Disk → List ℕ → ℕ → Store
 started r a disk image used =
-    let o = powerOnBytes r a disk image used in
+    let o = powerOnBytes r a (disk .sectors) image used in
     store (o .recordArea) (o .privateArea) disk
 
 -- "The model machine of our first paper makes the same power-on, from the same image and disk, and runs the same list."
-pub record FollowsMachine (r a disk image : List ℕ) (used : ℕ) (xs : List Step) : Type 0 where
+pub record FollowsMachine (r a : List ℕ) (disk : Disk) (image : List ℕ) (used : ℕ) (xs : List Step) : Type 0 where
   pub sameAnswer : firstAnswer disk image used ≡ 0
   -- "After the power-on and after each step our device and every byte of the disk equal the model machine's. Every answer number,
   -- every count of sectors written, every reply delivered and every saved image is the same too."
@@ -46,5 +45,5 @@ pub record FollowsMachine (r a disk image : List ℕ) (used : ℕ) (xs : List St
 -- bytes are bytes.
 abbrev pub Condition3 : Type 0
 Condition3 =
-    (r a disk image : List ℕ) (used : ℕ) → powerOnBytes r a disk image used .answer ≡ 0 → Bytes disk → Bytes image
+    (r a : List ℕ) (disk : Disk) (image : List ℕ) (used : ℕ) → powerOnBytes r a (disk .sectors) image used .answer ≡ 0 → Bytes (disk .sectors) → Bytes image
     → (xs : List Step) → Each Fed xs → FollowsMachine r a disk image used xs

@@ -6,15 +6,14 @@ use mathlib.Core.List.{List, [], _∷_, _++_}
 use lib.ListN.{length, set, replicate}
 use lib.Seq.{sets}
 use lib.Dec.{eqb, ltb}
-use Rattle.wire.specs.Choice.{between, Check, firstFailed, ifPassed}
+use Rattle.wire.specs.Choice.{Check, firstFailed, ifPassed}
 use Rattle.wire.specs.Parts.{zeros}
 use Rattle.model.specs.Sizes.{sectorSize, portCount, mailboxSize, entrySize, done, badPort, badLength, badStage, badRecord, badValue}
 use Rattle.model.specs.Device.{Device}
-use Rattle.model.specs.Registers.{replyBytes}
-use Rattle.model.specs.Fill.{Volume, workCount, work}
-use Rattle.model.specs.Decide.{Effect, nothing, sendStatus, sendTemperatures, readLba, writeLba, beginFill, Decision, decide}
-use Rattle.model.specs.Perform.{written, sent}
-use Rattle.model.specs.Owner.{setLock, setVisible, sample}
+use Rattle.model.specs.Fill.{workCount, work}
+use Rattle.model.specs.Decide.{Serving, Writing, noWrite, oneSector, newFill, Decision, decide}
+use Rattle.model.specs.Perform.{volumeAfter, replyOf}
+use Rattle.model.specs.Step.{OwnerStep, lock, unlock, setVisible, sample, goodValue, ownerRule}
 use Rattle.model.specs.Image.{Saved, savedImage, restored, powerOn}
 use Rattle.model.specs.Image.{saveChecks as savingChecks, powerOnChecks as diskChecks}
 use Rattle.store.specs.Areas.{recordSize, slotPlace, fillPlace, privateSize}
@@ -102,28 +101,24 @@ abbrev pub serveChecks : List ℕ → ℕ → List ℕ → List ℕ → List Che
 serveChecks r p a disk = soundRecord r ∷ ofSize privateSize a ∷ diskSized r disk ∷ goodPort p ∷ inStage isHeld r p ∷ []
 
 -- a fill that begins has its sector in the private area
-abbrev pub withFillSector : Effect → List ℕ → List ℕ
-withFillSector nothing a = a
-withFillSector sendStatus a = a
-withFillSector sendTemperatures a = a
-withFillSector (readLba lba) a = a
-withFillSector (writeLba lba sector) a = a
-withFillSector (beginFill first end sector) a = sets a fillPlace sector
+abbrev pub withFillSector : Writing → List ℕ → List ℕ
+withFillSector noWrite a = a
+withFillSector (oneSector lba sector) a = a
+withFillSector (newFill first end sector) a = sets a fillPlace sector
 
 -- "answers the held request from the slot alone and leaves the reply in the slot. Held to answered."
 abbrev pub performed : ℕ → Decision → Contents → List ℕ → List ℕ → ServeAfter
 performed p k c a disk =
-    let decided : Volume = record { device = k .device; disk = disk } in
-    let v = written (k .effect) decided in
+    let v = volumeAfter k (record { sectors = disk }) in
     record {
       answer = done;
       recordArea = encode (withStage p answered (withDevice (v .device) c));
-      privateArea = withFillSector (k .effect) (sets a (slotPlace p) (replyBytes (k .registers) (sent (k .effect) decided)));
-      disk = v .disk;
+      privateArea = withFillSector (k .effect .writes) (sets a (slotPlace p) (replyOf k v));
+      disk = v .disk .sectors;
     }
 
 abbrev pub serveDone : List ℕ → ℕ → List ℕ → List ℕ → ServeAfter
-serveDone r p a disk = let c = decode r in performed p (decide p (slotBytes p a) (c .device)) c a disk
+serveDone r p a disk = let c = decode r in performed p (decide (record { port = p }) (slotBytes p a) (c .device)) c a disk
 
 unfoldable pub serveBytes : List ℕ → ℕ → List ℕ → List ℕ → ServeAfter
 serveBytes r p a disk =
@@ -164,12 +159,12 @@ workChecks r a disk = soundRecord r ∷ ofSize privateSize a ∷ diskSized r dis
 abbrev pub workDone : List ℕ → List ℕ → List ℕ → ℕ → WorkAfter
 workDone r a disk n =
     let c = decode r in
-    let v = work n (fillSectorOf a) (record { device = c .device; disk = disk }) in
+    let v = work n (fillSectorOf a) (record { device = c .device; disk = record { sectors = disk } }) in
     record {
       answer = done;
       count = workCount n (c .device .command .fill);
       recordArea = encode (withDevice (v .device) c);
-      disk = v .disk;
+      disk = v .disk .sectors;
     }
 
 unfoldable pub workBytes : List ℕ → List ℕ → List ℕ → ℕ → WorkAfter
@@ -177,7 +172,7 @@ workBytes r a disk n =
     let refusal = firstFailed (workChecks r a disk) in
     ifPassed refusal (workDone r a disk n) (record { answer = refusal; count = 0; recordArea = r; disk = disk })
 
--- ---- lock, unlock, set V, sample: record
+-- ---- the owner steps lock, unlock, set V, sample: record
 
 pub record OwnerAfter : Type 0 where
   pub answer : ℕ
@@ -190,21 +185,28 @@ ownerDone f r = let c = decode r in record { answer = done; recordArea = encode 
 abbrev pub ownerBytes : List Check → (Device → Device) → List ℕ → OwnerAfter
 ownerBytes cs f r = let n = firstFailed cs in ifPassed n (ownerDone f r) (record { answer = n; recordArea = r })
 
+-- "V asked is 0 or above N"
+abbrev pub ownerChecks : OwnerStep → List ℕ → List Check
+ownerChecks x r = soundRecord r ∷ (goodValue x (decode r .device), badValue) ∷ []
+
+-- the owner's step x
+abbrev pub ownerEntry : OwnerStep → List ℕ → OwnerAfter
+ownerEntry x r = ownerBytes (ownerChecks x r) (ownerRule x) r
+
 unfoldable pub lockBytes : List ℕ → OwnerAfter
-lockBytes r = ownerBytes (soundRecord r ∷ []) (setLock true) r
+lockBytes r = ownerEntry lock r
 
 unfoldable pub unlockBytes : List ℕ → OwnerAfter
-unlockBytes r = ownerBytes (soundRecord r ∷ []) (setLock false) r
+unlockBytes r = ownerEntry unlock r
 
--- "V asked is 0 or above N"
 abbrev pub visibleChecks : List ℕ → ℕ → List Check
-visibleChecks r v = soundRecord r ∷ (between 1 v (decode r .device .native), badValue) ∷ []
+visibleChecks r v = ownerChecks (setVisible v) r
 
 unfoldable pub setVisibleBytes : List ℕ → ℕ → OwnerAfter
-setVisibleBytes r v = ownerBytes (visibleChecks r v) (setVisible v) r
+setVisibleBytes r v = ownerEntry (setVisible v) r
 
 unfoldable pub sampleBytes : List ℕ → ℕ → OwnerAfter
-sampleBytes r reading = ownerBytes (soundRecord r ∷ []) (sample reading) r
+sampleBytes r reading = ownerEntry (sample reading) r
 
 -- ---- save: record, image, used length
 

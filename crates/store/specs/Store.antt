@@ -4,6 +4,7 @@ use mathlib.Core.List.{List}
 use lib.ListN.{getD}
 use Rattle.wire.specs.Parts.{part}
 use Rattle.model.specs.Sizes.{sectorSize}
+use Rattle.model.specs.Disk.{Disk}
 use Rattle.model.specs.Machine.{Port, Machine, machine}
 use Rattle.model.specs.Machine.{empty as nothing, request, reply}
 use Rattle.store.specs.Areas.{slotSize, slotPlace, fillPlace}
@@ -12,7 +13,7 @@ use Rattle.store.specs.Record.{Stage, empty, held, answered, Contents, d
 pub record Store : Type 0 where
   pub recordArea : List ℕ
   pub privateArea : List ℕ
-  pub disk : List ℕ
+  pub disk : Disk
 
 -- "a slot is empty, held or answered as the machine's port holds nothing, a request or a reply"
 abbrev pub portOf : Stage → List ℕ → Port
@@ -31,7 +32,7 @@ abbrev pub stageFor : ℕ → Contents → Stage
 stageFor p c = getD (c .stages) p empty
 
 -- the machine of a record's contents, a private area and a disk: "Our device is read from record and fill sector"
-abbrev pub machineFrom : Contents → List ℕ → List ℕ → Machine
+abbrev pub machineFrom : Contents → List ℕ → Disk → Machine
 machineFrom c private disk = machine (c .device) (fillSectorOf private) (λ p. portOf (stageFor p c) (slotBytes p private)) disk
 
 unfoldable pub machineOf : Store → Machine

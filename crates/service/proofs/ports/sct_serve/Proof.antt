@@ -3,6 +3,7 @@ use mathlib.Core.Path.{refl}
 use Prim.Native.Nat.{_<_}
 use native.Mathlib.Omega.{arith}
 use lib.ListN.{length-take}
+use Rattle.wire.specs.Bytes.{Bytes}
 use Rattle.model.specs.Sizes.{portCount}
 use Rattle.service.proofs.CheckLaws.{DiskPassed, serve-passed}
 use Rattle.service.proofs.StepLaws.{serve-refused, serve-done}
@@ -74,13 +75,15 @@ returns-2 c =
     let e = at-visible-len .visible-len .result in
     let s = seen at-visible-len in
     let after = at-serve .serve .ensures in
+    let area-bytes : Bytes (a .area .now) = λ i. omega (arith, area-known .slice-known2 .given i) in
+    let port = passed at-if1 .1 in
     rw (serve-done (a .device .now) (a .port) (a .area .now) (a .disk .now) (at-serve-refusal .serve-refusal .result) (at-serve-refusal .serve-refusal .ensures (a .area .now) (a .disk .now) refl refl) (at-if1 .if1 .left)) (
       refl,
       (
-        serve-record (a .device .now) (a .port) (a .area .now) (a .disk .now) e s _ (after .recordBytes),
+        serve-record (a .device .now) (a .port) (a .area .now) (a .disk .now) e s area-bytes port _ (after .recordBytes),
         (
-          serve-area (a .device .now) (a .port) (a .area .now) (a .disk .now) e s (λ i. omega (arith, area-known .slice-known2 .given i)) (passed at-if1 .1) _ (after .areaBytes),
-          serve-disk (a .device .now) (a .port) (a .area .now) (a .disk .now) e s (λ i. omega (arith, area-known .slice-known2 .given i)) (passed at-if1 .1) _ (after .diskBytes),
+          serve-area (a .device .now) (a .port) (a .area .now) (a .disk .now) e s area-bytes port _ (after .areaBytes),
+          serve-disk (a .device .now) (a .port) (a .area .now) (a .disk .now) e s area-bytes port _ (after .diskBytes),
         ),
       ),
     )
