@@ -1,7 +1,4 @@
--- In reading order.
-pub mod OutcomeLaws
-pub mod AnswerLaws
-pub mod KeyLaws
-pub mod TransferLaws
-pub mod AccessLaws
-pub mod ChoiceLaws
+-- Laws of what carrying out a request leaves: the record written (WrittenRecord), a decision performed (PerformLaws), a slot served (ServeLaws).
+pub mod WrittenRecord
+pub mod PerformLaws
+pub mod ServeLaws

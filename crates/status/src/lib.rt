@@ -1,5 +1,6 @@
-// The replies with the device's own data, on the bytes of a slot: the status sector, and the temperature table (sector.rt).
+// The replies that carry data, on the bytes of a slot: the status sector, the temperature table, a sector of the disk (sector.rt).
 mod sector;
 
+pub use sector::put_sector;
 pub use sector::put_status;
 pub use sector::put_table;

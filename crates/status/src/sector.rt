@@ -1,13 +1,14 @@
-// The replies that carry the device's own data: the status sector, Table 11 of document 001, and the temperature table.
+// The replies that carry data: the status sector, Table 11 of document 001; the temperature table; a sector of the disk.
 use record::Command;
 use record::Device;
 use record::Fill;
 use record::Thermal;
-use reply::good;
+use reply::Reply;
 use reply::put_registers;
 use reply::put_reply;
 use sizes::REGISTERS;
 use sizes::SECTOR;
+use sizes::SECTOR_U64;
 use sizes::TABLE_AT;
 use wire::copy_part;
 use wire::put_u8;
@@ -15,7 +16,7 @@ use wire::put_u16;
 use wire::put_u32;
 use wire::put_u64;
 ghost use mathlib.Core.Path.{_≡_};
-ghost use Prim.Native.Nat.{ℕ, _+_, _≤_};
+ghost use Prim.Native.Nat.{ℕ, _+_, _*_, _≤_};
 ghost use mathlib.Core.List.{List, []};
 ghost use lib.ListN.{length};
 ghost use lib.Seq.{sets};
@@ -23,10 +24,11 @@ ghost use Rattle.wire.specs.Choice.{bit};
 ghost use Rattle.wire.specs.Parts.{part};
 ghost use Rattle.wire.specs.Layout.{stores, placed};
 ghost use Rattle.model.specs.Sizes.{sectorSize, mailboxSize};
-ghost use Rattle.model.specs.Registers.{good, replyBytes};
+ghost use Rattle.model.specs.Registers.{replyBytes};
 ghost use Rattle.model.specs.Status.{driveState, currentLba, statusHead, statusCommand, statusTemperatures, statusSector};
 ghost use Rattle.store.specs.Areas.{recordSize, headSize};
 ghost use Rattle.record.specs.Meaning.{asFill, asThermal, asCommand, asDevice};
+ghost use Rattle.reply.specs.Meaning.{asRegisters};
 
 // "flag bit 0 at 6"
 fn flags(initialized: bool) -> u32
@@ -89,12 +91,12 @@ fn put_temperatures(area: &mut [u8], at: usize, t: Thermal)
     put_u8(area, at + 204, t.life);
 }
 
-// The reply of a good status read. "All else 0."
-pub fn put_status(area: &mut [u8], at: usize, d: Device)
+// The status sector. "All else 0."
+pub fn put_status(area: &mut [u8], at: usize, reply: Reply, d: Device)
     requires { ⌜ at + mailboxSize ≤ length (now area) ⌝ }
-    ensures { λ _. ⌜ ((h : List ℕ) → now (area .exit) ≡ sets (now (area .entry)) at (replyBytes (good 0 0) (statusSector (asDevice d h)))) ⌝ }
+    ensures { λ _. ⌜ ((h : List ℕ) → now (area .exit) ≡ sets (now (area .entry)) at (replyBytes (asRegisters reply) (statusSector (asDevice d h)))) ⌝ }
 {
-    put_reply(area, at, good(0, 0));
+    put_reply(area, at, reply);
     let c = d.command;
     let fill = c.fill;
     put_head(area, at + 16, d.initialized, fill);
@@ -103,11 +105,26 @@ pub fn put_status(area: &mut [u8], at: usize, d: Device)
     put_temperatures(area, at + 16, t);
 }
 
-// The reply of an E1h read of the table: "A table is sent as it stands at the E1h read." It is the record's second half.
-pub fn put_table(area: &mut [u8], at: usize, rec: &[u8])
+// The temperature table: "A table is sent as it stands at the E1h read." It is the record's second half.
+pub fn put_table(area: &mut [u8], at: usize, reply: Reply, rec: &[u8])
     requires { ⌜ (at + mailboxSize ≤ length (now area)) × (recordSize ≤ length (now rec)) ⌝ }
-    ensures { λ _. ⌜ now (area .exit) ≡ sets (now (area .entry)) at (replyBytes (good 0 0) (part (now (rec .entry)) headSize sectorSize)) ⌝ }
+    ensures { λ _. ⌜ now (area .exit) ≡ sets (now (area .entry)) at (replyBytes (asRegisters reply) (part (now (rec .entry)) headSize sectorSize)) ⌝ }
 {
-    put_registers(area, at, good(0, 0));
+    put_registers(area, at, reply);
     copy_part(area, at + REGISTERS, rec, TABLE_AT, SECTOR);
+}
+
+// The sector of the disk at an LBA.
+pub fn put_sector(area: &mut [u8], at: usize, reply: Reply, disk: &[u8], lba: u64)
+    requires { ⌜ (at + mailboxSize ≤ length (now area)) × (sectorSize * lba + sectorSize ≤ length (now disk)) ⌝ }
+    ensures { λ _. ⌜ now (area .exit) ≡ sets (now (area .entry)) at (replyBytes (asRegisters reply) (part (now (disk .entry)) (sectorSize * lba) sectorSize)) ⌝ }
+{
+    put_registers(area, at, reply);
+    copy_part(
+        area,
+        at + REGISTERS,
+        disk,
+        (SECTOR_U64 * lba) as usize,
+        SECTOR,
+    );
 }

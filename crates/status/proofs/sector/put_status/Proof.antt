@@ -1,15 +1,12 @@
 -- `status::sector::put_status` meets its contract.
 use mathlib.Core.Path.{refl}
-use Rattle.model.specs.Registers.{good}
 use Rattle.model.specs.Status.{statusFields, statusSector}
 use Rattle.record.specs.Meaning.{asDevice}
+use Rattle.reply.specs.Meaning.{asRegisters}
 use Rattle.reply.proofs.ReplyLaws.{reply-form}
 use borrow.Author.Needs.{needs}
 use Rattle.status.proofs.sector.put_status.Statement.{statement}
 use Rattle.status.proofs.sector.put_status.Tie as tie
-
-good-requires : tie.Need-good-requires
-good-requires c κs = search needs
 
 put-reply-requires : tie.Need-put-reply-requires
 put-reply-requires c κs = search needs
@@ -38,15 +35,14 @@ same-length c = search needs
 returns : tie.Need-returns
 unfolding statusSector
 returns c = λ h.
-    let a = c .before .before .before .before .before .before .before .before .before .before .before .before .before .before .before .before .before .before .before .before .args in
-    rw (c .before .before .put-temperatures .ensures, c .before .before .before .before .before .before .before .put-command .ensures, c .before .before .before .before .before .before .before .before .before .before .before .put-head .ensures, c .before .before .before .before .before .before .before .before .before .before .before .before .before .before .before .before .put-reply .ensures, c .before .before .before .before .before .before .before .before .before .before .before .before .before .before .before .before .before .good2 .ensures)
-    (reply-form (a .area .now) (a .at) (good 0 0) (statusFields (asDevice (a .d) h)) refl)
+    let a = c .before .before .before .before .before .before .before .before .before .before .before .before .before .before .before .before .before .before .before .args in
+    rw (c .before .before .put-temperatures .ensures, c .before .before .before .before .before .before .before .put-command .ensures, c .before .before .before .before .before .before .before .before .before .before .before .put-head .ensures, c .before .before .before .before .before .before .before .before .before .before .before .before .before .before .before .before .put-reply .ensures)
+    (reply-form (a .area .now) (a .at) (asRegisters (a .reply)) (statusFields (asDevice (a .d) h)) refl)
 
 pub put-status-spec : {M : Type 1} → statement M
 put-status-spec =
     tie.close
     (tie.spec
-    good-requires
     put-reply-requires
     add-put-head
     put-head-requires

@@ -2,14 +2,11 @@
 use native.Mathlib.Omega.{arith}
 use Rattle.wire.specs.Parts.{part}
 use Rattle.wire.proofs.PartsLaws.{length-part}
-use Rattle.model.specs.Registers.{good}
+use Rattle.reply.specs.Meaning.{asRegisters}
 use Rattle.reply.proofs.ReplyLaws.{reply-stored}
 use borrow.Author.Needs.{needs}
 use Rattle.status.proofs.sector.put_table.Statement.{statement}
 use Rattle.status.proofs.sector.put_table.Tie as tie
-
-good-requires : tie.Need-good-requires
-good-requires c κs = search needs
 
 put-registers-requires : tie.Need-put-registers-requires
 put-registers-requires c κs = search needs
@@ -25,15 +22,14 @@ same-length c = search needs
 
 returns : tie.Need-returns
 returns c =
-    let a = c .before .before .before .before .before .before .before .before .before .before .before .args in
-    rw (c .before .before .copy-part .ensures, c .before .before .before .before .before .before .put-registers .ensures, c .before .before .before .before .before .before .before .good2 .ensures)
-    (reply-stored (a .area .now) (a .at) (good 0 0) (part (a .rec .now) 512 512) (length-part (a .rec .now) 512 512 (omega arith)))
+    let a = c .before .before .before .before .before .before .before .before .before .before .args in
+    rw (c .before .before .copy-part .ensures, c .before .before .before .before .before .before .put-registers .ensures)
+    (reply-stored (a .area .now) (a .at) (asRegisters (a .reply)) (part (a .rec .now) 512 512) (length-part (a .rec .now) 512 512 (omega arith)))
 
 pub put-table-spec : {M : Type 1} → statement M
 put-table-spec =
     tie.close
     (tie.spec
-    good-requires
     put-registers-requires
     add-copy-part
     copy-part-requires

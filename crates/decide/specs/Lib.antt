@@ -1,0 +1,2 @@
+-- What a decision says.
+pub mod Meaning

@@ -1,0 +1,81 @@
+// The data transfer (E1h), and the access to one sector (24h and 34h).
+use crate::decision::Decision;
+use crate::decision::Sending;
+use crate::decision::Writing;
+use crate::decision::answered;
+use crate::decision::sent;
+use crate::decision::written;
+use command::Direction;
+use record::Device;
+use record::Transfer;
+ghost use mathlib.Core.Path.{_≡_};
+ghost use mathlib.Core.List.{List};
+ghost use Prim.Native.Nat.{ℕ, _<_};
+ghost use lib.ListN.{length, getD};
+ghost use Rattle.model.specs.Sizes.{portCount};
+ghost use Rattle.model.specs.Device.{none};
+ghost use Rattle.model.specs.Registers.{dataOf, good};
+ghost use Rattle.model.specs.Fill.{interrupt};
+ghost use Rattle.model.specs.Decide.{decision, transferEffect, sectorEffect, pendingFor, decideData, decideSector};
+ghost use Rattle.record.specs.Meaning.{asTransfer, pendingOf};
+ghost use Rattle.command.specs.Meaning.{asDirection};
+ghost use Rattle.decide.specs.Meaning.{Decided};
+
+// What the port p has pending.
+fn pending_of(d: Device, p: usize) -> Transfer
+    requires { ⌜ (p < portCount) × (length (d .slots) ≡ portCount) ⌝ }
+    ensures { λ t. ⌜ asTransfer t ≡ getD (pendingOf (d .slots)) p none ⌝ }
+{
+    let slots = d.slots;
+    let s = slots[p];
+    s.pending
+}
+
+// A transfer that is completed: the table is sent, or a fill begins with the sector that came.
+fn completed(d: Device, t: Transfer) -> Decision
+    ensures { λ k. ⌜ ((m : List ℕ) → Decided m (λ x. decision x (good 0 0) (transferEffect (asTransfer t) (dataOf m))) d k) ⌝ }
+{
+    match t {
+        Transfer::None => answered(d, reply::good(0, 0)),
+        Transfer::Table => sent(d, Sending::Temperatures),
+        Transfer::FillData(first, end) => written(d, Writing::DataFill(first, end)),
+    }
+}
+
+// "E1h is judged": the code is stored, 0000h where the transfer is completed.
+pub fn decide_data(d: Device, p: usize, dir: Direction, count: u16) -> Decision
+    requires { ⌜ (p < portCount) × (length (d .slots) ≡ portCount) ⌝ }
+    ensures { λ k. ⌜ ((m : List ℕ) → Decided m (λ x. decideData (asDirection dir) count (pendingFor p x) (dataOf m) (interrupt x)) d k) ⌝ }
+{
+    let t = pending_of(d, p);
+    let code = command::data_code(d.locked, dir, count, t);
+    let stopped = control::interrupt(d);
+    let e = control::with_code(stopped, code);
+    if code != 0 {
+        return answered(e, reply::refused_with(code));
+    }
+    completed(e, t)
+}
+
+// The sector read, or written.
+fn moved(d: Device, dir: Direction, lba: u64) -> Decision
+    ensures { λ k. ⌜ ((m : List ℕ) → Decided m (λ x. decision x (good 0 0) (sectorEffect (asDirection dir) lba (dataOf m))) d k) ⌝ }
+{
+    match dir {
+        Direction::Read => sent(d, Sending::Sector(lba)),
+        Direction::Write => written(d, Writing::Sector(lba)),
+    }
+}
+
+// "24h and 34h: read or write one sector at the 48-bit LBA"
+pub fn decide_sector(d: Device, dir: Direction, count: u16, lba: u64) -> Decision
+    requires { ⌜ length (d .slots) ≡ portCount ⌝ }
+    ensures { λ k. ⌜ ((m : List ℕ) → Decided m (λ x. decideSector (asDirection dir) count lba (dataOf m) (interrupt x)) d k) ⌝ }
+{
+    let error = command::sector_error(d.locked, d.visible, count, lba);
+    let e = control::interrupt(d);
+    if error != 0 {
+        return answered(e, reply::refused(error));
+    }
+    moved(e, dir, lba)
+}

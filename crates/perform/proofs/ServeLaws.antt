@@ -1,0 +1,85 @@
+-- A slot served: the request decided of the record's device, and performed.
+use mathlib.Core.Path.{_≡_, refl, sym, ap, _∙_, subst}
+use mathlib.Core.Bool.{true}
+use mathlib.Core.List.{List}
+use Prim.Native.Nat.{ℕ, _+_, _*_, _≤_, _<_}
+use native.Mathlib.Omega.{arith}
+use lib.ListN.{length}
+use Rattle.wire.specs.Bytes.{Bytes}
+use Rattle.model.specs.Sizes.{sectorSize, portCount}
+use Rattle.model.specs.Device.{Device}
+use Rattle.model.specs.Registers.{Request, requestOf}
+use Rattle.model.specs.Decide.{Serving, Decision, decideRequest, decide}
+use Rattle.model.proofs.ValidRequest.{WritingValid, SendingValid, DecisionValid, decide-valid}
+use Rattle.store.specs.Record.{Stage, Contents, decode}
+use Rattle.store.specs.Sound.{sound}
+use Rattle.store.specs.Store.{slotBytes}
+use Rattle.store.proofs.SoundLaws.{sound-valid}
+use Rattle.store.proofs.FollowLaws.{slot-sized}
+use Rattle.record.specs.declared.device as device
+use Rattle.record.specs.Meaning.{asDevice, asContents, stagesOf, historyOf}
+use Rattle.writing.proofs.FramedLaws.{sound-framed}
+use Rattle.control.proofs.ChangeLaws.{four-slots}
+use Rattle.decide.specs.declared.decision as code
+use Rattle.decide.specs.declared.decision.Writing.the-variants as writes
+use Rattle.decide.specs.declared.decision.Sending.the-variants as sends
+use Rattle.decide.specs.Meaning.{asWriting, asSending, asDecision, Decided}
+use Rattle.perform.specs.Served.{served, Served, WritesWithin, SendsWithin, Performable, Entered}
+
+-- "1 ≤ V"
+pub entered-visible : (r a : List ℕ) (p : ℕ) (d : device.Device.Device) → Entered r a p → Bytes r → asContents d (historyOf r) ≡ decode r → 1 ≤ d .visible
+entered-visible r a p d e b says =
+    let v = sound-valid r b (e .soundRecord) .device .sizes .0 in
+    let same = ap (λ (c : Contents). c .device .visible) says in
+    omega (arith, v, same)
+
+-- sectors below V lie within the visible disk
+writes-within : (d : Device) (w : code.Writing.Writing) (m disk : List ℕ) → length disk ≡ sectorSize * d .visible → WritingValid d (asWriting w m) → WritesWithin (length disk) w
+writes-within d writes.Nothing m disk size v = tt
+writes-within d (writes.Sector lba) m disk size v = omega (arith, size, v .0)
+writes-within d (writes.PatternFill first end) m disk size v = tt
+writes-within d (writes.DataFill first end) m disk size v = tt
+
+sends-within : (visible : ℕ) (x : code.Sending.Sending) (disk : List ℕ) → length disk ≡ sectorSize * visible → SendingValid visible (asSending x) → SendsWithin (length disk) x
+sends-within visible sends.Nothing disk size v = tt
+sends-within visible sends.Status disk size v = tt
+sends-within visible sends.Temperatures disk size v = tt
+sends-within visible (sends.Sector lba) disk size v = omega (arith, size, v)
+
+module _ (r a disk : List ℕ) (p : ℕ) (d : device.Device.Device) (q : Request) (k : code.Decision.Decision) (entered : Entered r a p)
+    (says : asContents d (historyOf r) ≡ decode r) (asked : q ≡ requestOf (slotBytes p a)) (decides : Decided (slotBytes p a) (decideRequest q (record { port = p }) (slotBytes p a)) d k) where
+  abbrev m : List ℕ
+  m = slotBytes p a
+
+  abbrev serving : Serving
+  serving = record { port = p }
+
+  -- what is decided is the model's decision
+  decided : asDecision k m (historyOf r) ≡ decide serving m (decode r .device)
+  unfolding decide
+  decided = decides .same (historyOf r) ∙ (λ i. decideRequest (asked i) serving m (says i .device))
+
+  pub performable : Bytes r → Bytes a → length disk ≡ sectorSize * decode r .device .visible → Performable r a disk p k
+  performable rb ab size =
+      let valid = decide-valid serving m (decode r .device) (sound-valid r rb (entered .soundRecord) .device) (slot-sized a p (record { size = entered .size; bytes = ab }) (entered .port)) in
+      let dv : DecisionValid (decode r .device) (asDecision k m (historyOf r)) = subst (λ (c : Decision). DecisionValid (decode r .device) c) (sym decided) valid in
+      let seen : length disk ≡ sectorSize * k .device .visible = size ∙ ap (λ (v : ℕ). sectorSize * v) (sym (dv .sameSizes .1)) in
+      record {
+        framed = sound-framed r rb (entered .soundRecord);
+        size = entered .size;
+        port = entered .port;
+        four = decides .four ∙ four-slots d (historyOf r) r says;
+        writesWithin = writes-within (asDecision k m (historyOf r) .device) (k .writes) m disk seen (dv .effectValid .0);
+        sendsWithin = sends-within (k .device .visible) (k .sends) disk seen (dv .effectValid .1);
+      }
+
+  -- THE LAW of a slot served
+  pub serves : (newRecord b newDisk : List ℕ) → Served p (asDecision k m (historyOf r)) (stagesOf (k .device .slots)) a disk newRecord b newDisk
+      → Served p (decide serving m (decode r .device)) (decode r .stages) a disk newRecord b newDisk
+  serves newRecord b newDisk s =
+      let stages : stagesOf (k .device .slots) ≡ decode r .stages = decides .stages ∙ ap (λ (c : Contents). c .stages) says in
+      record {
+        recordBytes = s .recordBytes ∙ (λ i. served p (decided i) (stages i) a disk .recordArea);
+        areaBytes = s .areaBytes ∙ (λ i. served p (decided i) (stages i) a disk .privateArea);
+        diskBytes = s .diskBytes ∙ (λ i. served p (decided i) (stages i) a disk .disk);
+      }
