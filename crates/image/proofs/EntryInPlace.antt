@@ -22,7 +22,7 @@ use Rattle.wire.proofs.FormUnique.{form-unique}
 use Rattle.wire.proofs.BytesLaws.{bytes-part, all-zero-true, zero-all-true, same-refl, same-true}
 use Rattle.model.specs.Sizes.{sectorSize, historySize, bodySize, trailerSize, entrySize, entryLimit}
 use Rattle.model.specs.Temperature.{tableHeadSize, tableBytes}
-use Rattle.model.specs.Image.{Saved, headFields, headSize, bodyBytes, hasBit, savedIn, inRange, bodyHolds, tag, trailerPlace, previousPlace, trailerFields, trailerBytes, bodyAt, entryHolds}
+use Rattle.model.specs.Image.{Saved, headFields, headSize, bodyBytes, hasBit, savedIn, inRange, bodyHolds, alike, tag, trailerPlace, previousPlace, trailerFields, trailerBytes, bodyAt, entryHolds}
 use Rattle.model.proofs.FormatLaws.{table-at}
 use Rattle.model.proofs.EntryLaws.{SavedFits, read-fits}
 use Rattle.model.proofs.EntryFormat.{BodyAt, body-at, get-trailer, trailer-fields}
@@ -328,21 +328,14 @@ module _ (image : List ℕ) (at k : ℕ) (b : Bytes image) (fits : at + trailerS
 
 -- ---- an entry
 
-saved-native : (image : List ℕ) (at : ℕ) → savedAt image at .native ≡ get 8 image at
-unfolding savedAt
-saved-native image at = refl
-
--- THEOREM: entry k holds where its body and its trailer pass the tests in place and its N is the disk's.
-pub entry-in-place : (native : ℕ) (image : List ℕ) (at k : ℕ) → Bytes image → 1 ≤ k → k ≤ entryLimit → at ≡ trailerPlace k → entrySize * k ≤ length image
-    → (bodyInPlace image (at - bodySize) && eqb (get 8 image (at - bodySize)) native && trailerInPlace image at k) ≡ entryHolds native image k
+-- THEOREM: entry k holds where its body and its trailer pass the tests in place and it is alike the newest.
+pub entry-in-place : (latest : Saved) (image : List ℕ) (at k : ℕ) → Bytes image → 1 ≤ k → k ≤ entryLimit → at ≡ trailerPlace k → entrySize * k ≤ length image
+    → (bodyInPlace image (at - bodySize) && alike latest (savedAt image (at - bodySize)) && trailerInPlace image at k) ≡ entryHolds latest image k
 unfolding entryHolds
-entry-in-place native image at k b low high e long =
-    ap (λ (p : ℕ). bodyInPlace image (p - bodySize) && eqb (get 8 image (p - bodySize)) native && trailerInPlace image p k) e
+entry-in-place latest image at k b low high e long =
+    ap (λ (p : ℕ). bodyInPlace image (p - bodySize) && alike latest (savedAt image (p - bodySize)) && trailerInPlace image p k) e
     ∙ rw (
       ← body-in-place image (trailerPlace k - bodySize) b (omega arith),
       ← trailer-in-place image (trailerPlace k) k b (omega arith) high,
-      ← named,
+      ← saved-at image (trailerPlace k - bodySize) b (omega arith),
     )
-  where
-    named : savedIn (bodyAt image k) .native ≡ get 8 image (trailerPlace k - bodySize)
-    named = ap (λ (s : Saved). s .native) (saved-at image (trailerPlace k - bodySize) b (omega arith)) ∙ saved-native image (trailerPlace k - bodySize)

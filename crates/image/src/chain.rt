@@ -7,14 +7,14 @@ ghost use mathlib.Core.Path.{_≡_};
 ghost use Prim.Native.Nat.{_+_, _*_, _≤_};
 ghost use lib.ListN.{length};
 ghost use Rattle.model.specs.Sizes.{entrySize, entryLimit};
-ghost use Rattle.model.specs.Image.{chainHolds, readable};
+ghost use Rattle.model.specs.Image.{Saved, chainHolds, readable};
 
 // "Reading starts at the last trailer and follows the chain back": the entries from `number` down to the first, the last trailer at `at`.
-// The image is passed by the address of the slice, so that the call at the end takes no stack.
+// `native` is what `alike` asks of the newest entry. The image is passed by the address of the slice, so that the call at the end takes no stack.
 fn chain_holds(native: u64, image: &&[u8], at: usize, number: u32) -> bool
     requires { ⌜ number ≤ entryLimit ⌝ }
     requires long { ⌜ entrySize * number ≤ length (now (now image)) ⌝ }
-    ensures { λ r. ⌜ r ≡ chainHolds native (now (now (image .entry))) number at ⌝ }
+    ensures { λ r. ⌜ ((latest : Saved) → latest .native ≡ native → r ≡ chainHolds latest (now (now (image .entry))) number at) ⌝ }
 {
     if number == 0 {
         return at == 0xFFFFFFFF;

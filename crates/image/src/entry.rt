@@ -7,7 +7,7 @@ ghost use lib.ListN.{length};
 ghost use Rattle.wire.specs.Parts.{part};
 ghost use Rattle.wire.specs.Bytes.{same};
 ghost use Rattle.model.specs.Sizes.{bodySize, trailerSize, entrySize, entryLimit};
-ghost use Rattle.model.specs.Image.{inRange, tag, previousPlace, trailerPlace, entryHolds};
+ghost use Rattle.model.specs.Image.{Saved, inRange, alike, tag, previousPlace, trailerPlace, entryHolds};
 ghost use Rattle.image.specs.InPlace.{savedAt, bodyInPlace, trailerInPlace};
 
 // "then the letters SCTE"
@@ -47,6 +47,14 @@ fn body_holds(image: &[u8], at: usize) -> bool
     (flag <= 1) & (options <= 7) & zero & fixed & (logged == state) & ranged
 }
 
+// "all entries have the same N": whether the body at `at` is alike that of the newest entry, whose N is `native`.
+fn alike(native: u64, image: &[u8], at: usize) -> bool
+    requires { ⌜ at + bodySize ≤ length (now image) ⌝ }
+    ensures { λ r. ⌜ ((latest : Saved) → latest .native ≡ native → r ≡ alike latest (savedAt (now (image .entry)) at)) ⌝ }
+{
+    wire::u64_at(image, at) == native
+}
+
 // "the place of the previous trailer (FFFFFFFFh for the first)"
 pub fn previous_place(number: u32) -> u32
     requires { ⌜ (1 ≤ number) × (number ≤ entryLimit) ⌝ }
@@ -80,14 +88,14 @@ fn trailer_holds(image: &[u8], at: usize, number: u32) -> bool
     (size == 544) & (before == previous_place(number)) & (named == number) & letters
 }
 
-// Whether entry `number` holds, with the N of the newest entry ("all entries have the same N"); its trailer stands at `at`.
+// Whether entry `number` holds beside the newest, whose N is `native`; its trailer stands at `at`.
 pub fn entry_holds(native: u64, image: &[u8], at: usize, number: u32) -> bool
     requires { ⌜ (1 ≤ number) × (number ≤ entryLimit) × (at ≡ trailerPlace number) ⌝ }
     requires long { ⌜ entrySize * number ≤ length (now image) ⌝ }
-    ensures { λ r. ⌜ r ≡ entryHolds native (now (image .entry)) number ⌝ }
+    ensures { λ r. ⌜ ((latest : Saved) → latest .native ≡ native → r ≡ entryHolds latest (now (image .entry)) number) ⌝ }
 {
     let body = body_holds(image, at - BODY);
-    let named = wire::u64_at(image, at - BODY);
+    let same = alike(native, image, at - BODY);
     let trailer = trailer_holds(image, at, number);
-    body & (named == native) & trailer
+    body & same & trailer
 }

@@ -6,7 +6,7 @@ use native.Mathlib.Omega.{arith}
 use mathlib.Core.List.{List, [], _++_, append-assoc}
 use lib.ListN.{length, drop, length-append}
 use lib.Dec.{eqb, ltb}
-use borrow.Author.Tests.{ltb-true, lt-ltb}
+use borrow.Author.Tests.{eqb-true, eq-eqb, ltb-true, lt-ltb}
 use Rattle.wire.specs.Choice.{bit, between}
 use Rattle.wire.specs.Numbers.{get}
 use Rattle.wire.specs.Parts.{part}
@@ -20,7 +20,7 @@ use Rattle.wire.proofs.BytesLaws.{bytes-nil, bytes-cons, bytes-append, bytes-fo
 use Rattle.model.specs.Sizes.{sectorSize, nativeLimit, historySize, bodySize, trailerSize}
 use Rattle.model.specs.Key.{highestState}
 use Rattle.model.specs.Temperature.{tableFields, tableHeadSize, tableBytes}
-use Rattle.model.specs.Image.{Saved, headFields, headSize, bodyBytes, hasBit, savedIn, inRange, bodyHolds, tag, trailerFields, trailerBytes}
+use Rattle.model.specs.Image.{Saved, headFields, headSize, bodyBytes, hasBit, savedIn, inRange, bodyHolds, alike, tag, trailerFields, trailerBytes}
 use Rattle.model.specs.Valid.{StateValid}
 
 -- ---- sizes
@@ -234,3 +234,25 @@ range-fits s r m w b =
       whole = w;
       readings = b;
     }
+
+-- ---- "all entries have the same N"
+
+-- what the test `alike` says of two entries
+pub record AreAlike (a b : Saved) : Type 0 where
+  pub sameNative : b .native ≡ a .native
+
+pub alike-parts : (a b : Saved) → alike a b ≡ true → AreAlike a b
+unfolding alike
+alike-parts a b e = record { sameNative = eqb-true (b .native) (a .native) e }
+
+pub parts-alike : (a b : Saved) → AreAlike a b → alike a b ≡ true
+unfolding alike
+parts-alike a b r = eq-eqb (b .native) (a .native) (r .sameNative)
+
+pub alike-self : (s : Saved) → AreAlike s s
+alike-self s = record { sameNative = refl }
+
+-- entries that are alike are alike the same others
+pub alike-others : (a b s : Saved) → AreAlike a b → alike a s ≡ alike b s
+unfolding alike
+alike-others a b s r = ap (eqb (s .native)) (sym (r .sameNative))

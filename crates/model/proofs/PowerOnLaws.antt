@@ -107,7 +107,7 @@ newest-form image used b h n =
     let low : 1 ≤ f .number = omega (arith, f .usedLength) in
     let e = f .each (f .number) low (omega arith) in (
       e .saved,
-      ap (λ (n : ℕ). savedIn (bodyAt image n)) number ∙ form-saved (f .native) image (f .number) low e,
+      ap (λ (n : ℕ). savedIn (bodyAt image n)) number ∙ form-saved (f .latest) image (f .number) low e,
       e .fits,
       e .ranged,
     )

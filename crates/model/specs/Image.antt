@@ -122,10 +122,14 @@ bodyAt image k = part image (trailerPlace k - bodySize) bodySize
 abbrev pub trailerAt : List ℕ → ℕ → List ℕ
 trailerAt image k = part image (trailerPlace k) trailerSize
 
--- entry k holds: its body, its N, its trailer
-unfoldable pub entryHolds : ℕ → List ℕ → ℕ → Bool
-entryHolds native image k =
-    bodyHolds (bodyAt image k) && eqb (savedIn (bodyAt image k) .native) native && same (trailerAt image k) (trailerBytes k)
+-- "all entries have the same N": whether an entry is alike the newest. W-204 adds the form here.
+unfoldable pub alike : Saved → Saved → Bool
+alike latest s = eqb (s .native) (latest .native)
+
+-- entry k holds: its body, alike the newest, and its trailer
+unfoldable pub entryHolds : Saved → List ℕ → ℕ → Bool
+entryHolds latest image k =
+    bodyHolds (bodyAt image k) && alike latest (savedIn (bodyAt image k)) && same (trailerAt image k) (trailerBytes k)
 
 -- ---- an image
 
@@ -146,14 +150,14 @@ unfoldable pub readable : List ℕ → ℕ → Bool
 readable image used =
     eqb (used % entrySize) 0
     && leb used (entrySize * entryLimit)
-    && every (entries used) (entryHolds (newest image used .native) image)
+    && every (entries used) (entryHolds (newest image used) image)
 
 -- "Reading starts at the last trailer and follows the chain back": n entries, the last trailer at a place. It says the same as
 -- "every entry" above (proofs/ImageLaws.antt, chain-every).
-unfoldable pub chainHolds : ℕ → List ℕ → ℕ → ℕ → Bool
-chainHolds native image zero at = eqb at 0xFFFFFFFF
-chainHolds native image (suc k) at =
-    eqb at (trailerPlace (suc k)) && entryHolds native image (suc k) && chainHolds native image k (get 4 image (at + 4))
+unfoldable pub chainHolds : Saved → List ℕ → ℕ → ℕ → Bool
+chainHolds latest image zero at = eqb at 0xFFFFFFFF
+chainHolds latest image (suc k) at =
+    eqb at (trailerPlace (suc k)) && entryHolds latest image (suc k) && chainHolds latest image k (get 4 image (at + 4))
 
 -- whether the image is empty or its newest entry is this disk's
 abbrev pub sameDisk : ℕ → List ℕ → ℕ → Bool

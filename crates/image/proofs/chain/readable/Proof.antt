@@ -1,5 +1,5 @@
 -- `image::chain::readable` meets its contract.
-use mathlib.Core.Path.{_∙_}
+use mathlib.Core.Path.{sym, _∙_}
 use native.Mathlib.Omega.{arith}
 use Rattle.image.proofs.ChainLaws.{readable-uneven, readable-long, readable-empty, readable-chain}
 use borrow.Author.Needs.{needs}
@@ -33,7 +33,8 @@ chain-holds-requires c κs = search needs
 returns-4 : tie.Need-returns-4
 returns-4 c =
     let some = c .before .before .before .if3 .left in
-    c .chain-holds .ensures ∙ rw (c .before .before .u64-at .ensures) (readable-chain _ _ (c .before .before .before .before .before .if1 .left) (c .before .before .before .before .if2 .left) (omega arith))
+    readable-chain _ _ (c .before .before .before .before .before .if1 .left) (c .before .before .before .before .if2 .left) (omega arith) _
+    (λ latest e. c .chain-holds .ensures latest (e ∙ sym (c .before .before .u64-at .ensures)))
 
 pub readable-spec : {M : Type 1} → statement M
 readable-spec =
