@@ -213,19 +213,20 @@ blank native =
 abbrev pub kept : Feature → Feature
 kept f = record { state = if f .persistent then f .state else 1; persistent = f .persistent }
 
--- The settings of the three features at power-on: "Timers return to 0 at power-on."
-abbrev pub settingsOf : Feature → Feature → Feature → Settings
-settingsOf cache reordering interval =
+-- the settings at power-on, of the two timers and of the three features as they were saved
+abbrev pub settingsOf : ℕ → ℕ → Feature → Feature → Feature → Settings
+settingsOf forRead forWrite cache reordering interval =
     record {
-      readTimer = powerOnTimer;
-      writeTimer = powerOnTimer;
+      readTimer = forRead;
+      writeTimer = forWrite;
       writeCache = kept cache;
       reordering = kept reordering;
       logInterval = kept interval;
     }
 
+-- "Timers return to 0 at power-on."
 abbrev pub powerOnSettings : Saved → Settings
-powerOnSettings s = settingsOf (s .writeCache) (s .reordering) (s .logInterval)
+powerOnSettings s = settingsOf powerOnTimer powerOnTimer (s .writeCache) (s .reordering) (s .logInterval)
 
 -- ".. with "now" and this cycle's maximum missing. The history is kept if the interval after power-on equals the saved one; minutes are 0."
 abbrev pub powerOnThermal : Saved → Thermal

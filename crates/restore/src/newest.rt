@@ -50,7 +50,13 @@ fn saved_settings(image: &[u8], at: usize) -> Settings
         state: wire::u16_at(image, at + 22),
         persistent: has_bit(4, options),
     };
-    Settings::power_on(cache, reordering, interval)
+    Settings::power_on(
+        Settings::POWER_ON_TIMER,
+        Settings::POWER_ON_TIMER,
+        cache,
+        reordering,
+        interval,
+    )
 }
 
 // A device at power-on: "Unlocked, no fill, nothing owed, .. code, action and function 0".
