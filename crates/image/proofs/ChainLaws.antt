@@ -1,28 +1,28 @@
 -- One turn of the chain, as the code makes it, and the whole chain as readability.
 use mathlib.Core.Path.{_≡_, sym, ap, _∙_}
 use mathlib.Core.Bool.{Bool, true, false, _&&_}
-use Prim.Native.Nat.{ℕ, zero, suc, _+_, _-_, _*_, _/_, _%_, _≤_, _<_}
+use Prim.Native.Nat.{ℕ, zero, suc, _+_, _-_, _*_, _%_, _≤_, _<_}
 use native.Mathlib.Omega.{arith}
 use mathlib.Core.List.{List}
 use lib.Dec.{eqb}
 use borrow.Author.Tests.{eq-eqb, ne-eqb, le-leb, lt-leb}
 use Rattle.wire.specs.Numbers.{get}
 use Rattle.model.specs.Sizes.{trailerSize, entrySize, entryLimit}
-use Rattle.model.specs.Image.{Saved, trailerPlace, previousPlace, entryHolds, entries, newest, readable, chainHolds}
-use Rattle.model.proofs.ImageLaws.{chain-every, newest-native}
+use Rattle.model.specs.Image.{Saved, savedAt, trailerPlace, noTrailer, previousPlace, linkPlace, entryHolds, entries, newest, readable, chainHolds}
+use Rattle.model.proofs.ImageLaws.{chain-every, newest-at}
 
 module _ (latest : Saved) (image : List ℕ) where
-  pub chain-none : (k at : ℕ) → k ≡ 0 → eqb at 0xFFFFFFFF ≡ chainHolds latest image k at
+  pub chain-none : (k at : ℕ) → k ≡ 0 → eqb at noTrailer ≡ chainHolds latest image k at
   unfolding chainHolds
   chain-none k at e = ap (λ (n : ℕ). chainHolds latest image n at) (sym e)
 
   -- entry k, and the chain from the place that its trailer names
   chain-turn : (k at : ℕ) → 1 ≤ k
-      → chainHolds latest image k at ≡ (eqb at (trailerPlace k) && entryHolds latest image k && chainHolds latest image (k - 1) (get 4 image (at + 4)))
+      → chainHolds latest image k at ≡ (eqb at (trailerPlace k) && entryHolds latest image k && chainHolds latest image (k - 1) (get 4 image (at + linkPlace)))
   unfolding chainHolds
   chain-turn zero at h = absurd (omega arith)
   chain-turn (suc k) at h =
-      ap (λ (n : ℕ). eqb at (trailerPlace (suc k)) && entryHolds latest image (suc k) && chainHolds latest image n (get 4 image (at + 4))) (less k)
+      ap (λ (n : ℕ). eqb at (trailerPlace (suc k)) && entryHolds latest image (suc k) && chainHolds latest image n (get 4 image (at + linkPlace))) (less k)
     where
       less : (k : ℕ) → k ≡ suc k - 1
       less k = omega arith
@@ -34,7 +34,7 @@ module _ (latest : Saved) (image : List ℕ) where
   chain-broken k at h e f = sym (chain-turn k at h ∙ rw (eq-eqb at (trailerPlace k) e, f))
 
   pub chain-on : (k at : ℕ) → 1 ≤ k → at ≡ trailerPlace k → entryHolds latest image k ≡ true
-      → chainHolds latest image (k - 1) (get 4 image (at + 4)) ≡ chainHolds latest image k at
+      → chainHolds latest image (k - 1) (get 4 image (at + linkPlace)) ≡ chainHolds latest image k at
   chain-on k at h e t = sym (chain-turn k at h ∙ rw (eq-eqb at (trailerPlace k) e, t))
 
 -- ---- readable
@@ -54,14 +54,14 @@ module _ (image : List ℕ) (used : ℕ) where
 
   -- the answer of a chain test that knows only the newest entry's N
   pub readable-chain : used % entrySize ≡ 0 → used ≤ entrySize * entryLimit → 1 ≤ used → (answer : Bool)
-      → ((latest : Saved) → latest .native ≡ get 8 image (used - entrySize) → answer ≡ chainHolds latest image (entries used) (used - trailerSize))
+      → ((latest : Saved) → latest .native ≡ savedAt image (used - entrySize) .native → answer ≡ chainHolds latest image (entries used) (used - trailerSize))
       → answer ≡ readable image used
   unfolding readable
   readable-chain e h some answer holds =
       let n = entries used in
       let whole : used ≡ entrySize * n = omega arith in
       let last : previousPlace (suc n) ≡ used - trailerSize = rw (ne-eqb (suc n) 1 (λ x. omega arith)) (omega arith) in
-      holds (newest image used) (newest-native image used e (omega arith))
+      holds (newest image used) (ap (λ (s : Saved). s .native) (newest-at image used e (omega arith)))
       ∙ ap (chainHolds (newest image used) image n) (sym last)
       ∙ chain-every (newest image used) image n (omega arith)
       ∙ sym (rw (eq-eqb (used % entrySize) 0 e, le-leb used (entrySize * entryLimit) h))

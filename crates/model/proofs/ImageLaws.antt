@@ -1,7 +1,7 @@
 -- Laws of the saved image: every entry, the chain of trailers, and the form that an image is read in.
 use mathlib.Core.Path.{_≡_, refl, sym, ap, ap₂, _∙_, subst}
 use mathlib.Core.Bool.{Bool, true, false, _&&_}
-use Prim.Native.Nat.{ℕ, zero, suc, _+_, _-_, _*_, _/_, _%_, _^_, _≤_, _<_}
+use Prim.Native.Nat.{ℕ, zero, suc, _+_, _-_, _*_, _%_, _≤_, _<_}
 use native.Mathlib.Nat.{add-zero}
 use native.Mathlib.Omega.{arith}
 use mathlib.Core.List.{List, _++_}
@@ -9,20 +9,16 @@ use lib.ListN.{length, drop, length-take, length-drop}
 use lib.Seq.{take-add, drop-drop}
 use lib.Dec.{eqb, leb}
 use borrow.Author.Tests.{eqb-true, eqb-false, leb-true, eq-eqb, ne-eqb, le-leb}
-use Rattle.wire.specs.Choice.{if_then_else_}
 use Rattle.wire.specs.Numbers.{get}
 use Rattle.wire.specs.Parts.{part}
-use Rattle.wire.specs.Layout.{form}
 use Rattle.wire.specs.Bytes.{Bytes, same}
 use Rattle.wire.proofs.ChoiceLaws.{and-left, and-right, and-both, and-three, three-and}
-use Rattle.wire.proofs.NumbersLaws.{get-append-left}
 use Rattle.wire.proofs.PartsLaws.{length-part, part-part, get-part, part-append-left, part-append-right}
-use Rattle.wire.proofs.LayoutLaws.{length-form, reads-form}
 use Rattle.wire.proofs.BytesLaws.{bytes-part, same-refl, same-true}
 use Rattle.model.specs.Sizes.{bodySize, trailerSize, entrySize, entryLimit}
-use Rattle.model.specs.Image.{Saved, bodyBytes, savedIn, inRange, bodyHolds, alike, tag, trailerPlace, previousPlace, trailerFields, trailerBytes, bodyAt, trailerAt, entryHolds, every, entries, newest, readable, chainHolds, sameDisk}
+use Rattle.model.specs.Image.{Saved, bodyBytes, savedAt, savedIn, inRange, bodyHolds, trailerPlace, previousPlace, linkPlace, trailerBytes, bodyAt, trailerAt, alike, entryHolds, every, entries, newest, readable, chainHolds, sameDisk}
 use Rattle.model.proofs.EntryFormat.{get-trailer, trailer-fields}
-use Rattle.model.proofs.EntryLaws.{length-body, length-trailer, SavedFits, saved-back, body-holds, read-fits, AreAlike, alike-parts, parts-alike, alike-others}
+use Rattle.model.proofs.EntryLaws.{length-body, length-trailer, SavedFits, saved-back, saved-at, body-holds, read-fits, AreAlike, alike-parts, parts-alike, alike-others}
 
 -- ---- every entry, and the chain of trailers
 
@@ -43,8 +39,8 @@ all-every (suc n) f h =
 previous-place : (k : ℕ) → 1 ≤ k → previousPlace (suc k) ≡ trailerPlace k
 previous-place k h = rw (ne-eqb (suc k) 1 (omega arith)) (omega arith)
 
-trailer-reads : (k : ℕ) → k ≤ entryLimit → get 4 (trailerBytes k) 4 ≡ previousPlace k
-trailer-reads k h = get-trailer k 4 (omega arith) ∙ trailer-fields k (omega arith) .1 .0
+trailer-reads : (k : ℕ) → k ≤ entryLimit → get 4 (trailerBytes k) linkPlace ≡ previousPlace k
+trailer-reads k h = get-trailer k linkPlace (omega arith) ∙ trailer-fields k h .1 .0
 
 -- what the test of an entry says
 entry-held : (latest : Saved) (image : List ℕ) (k : ℕ) → entryHolds latest image k ≡ true
@@ -62,10 +58,10 @@ holds-alike a b image k r = rw (alike-others a b (savedIn (bodyAt image k)) r)
 
 -- "follows the chain back": the trailer of an entry that holds leads to the one before
 previous-read : (latest : Saved) (image : List ℕ) (k : ℕ) → k ≤ entryLimit → entryHolds latest image k ≡ true
-    → get 4 image (trailerPlace k + 4) ≡ previousPlace k
+    → get 4 image (trailerPlace k + linkPlace) ≡ previousPlace k
 previous-read latest image k h e =
-    sym (get-part 4 image (trailerPlace k) trailerSize 4 (omega arith))
-    ∙ ap (λ (l : List ℕ). get 4 l 4) (entry-held latest image k e .2)
+    sym (get-part 4 image (trailerPlace k) trailerSize linkPlace (omega arith))
+    ∙ ap (λ (l : List ℕ). get 4 l linkPlace) (entry-held latest image k e .2)
     ∙ trailer-reads k h
 
 -- The recursion from the last trailer says that every entry holds.
@@ -78,7 +74,7 @@ chain-every latest image (suc k) h =
     ∙ rw (eq-eqb (trailerPlace (suc k)) (trailerPlace (suc k)) refl) (go (entryHolds latest image (suc k)) refl (chain-every latest image k (omega arith)))
   where
     go : (b : Bool) → entryHolds latest image (suc k) ≡ b → chainHolds latest image k (previousPlace (suc k)) ≡ every k (entryHolds latest image)
-        → (b && chainHolds latest image k (get 4 image (trailerPlace (suc k) + 4))) ≡ (b && every k (entryHolds latest image))
+        → (b && chainHolds latest image k (get 4 image (trailerPlace (suc k) + linkPlace))) ≡ (b && every k (entryHolds latest image))
     go false e rest = refl
     go true e rest = rw (previous-read latest image (suc k) h e) rest
 
@@ -231,13 +227,16 @@ form-readable image used f =
         (sym (ap (λ (n : ℕ). savedIn (bodyAt image n)) number ∙ form-saved (f .latest) image (f .number) h e))
         (e .like)
 
--- ---- "newest entry's N is not this disk's"
+-- ---- the newest entry
 
--- the newest entry is the last 560 bytes of the used length, and its N stands first
-pub newest-native : (image : List ℕ) (used : ℕ) → used % 560 ≡ 0 → 560 ≤ used → newest image used .native ≡ get 8 image (used - 560)
-unfolding savedIn
-newest-native image used whole some =
-    get-part 8 image (trailerPlace (entries used) - bodySize) bodySize 0 (omega arith) ∙ ap (get 8 image) (omega arith)
+-- .. is the last 560 bytes of the used length
+pub newest-at : (image : List ℕ) (used : ℕ) → used % entrySize ≡ 0 → entrySize ≤ used → newest image used ≡ savedAt image (used - entrySize)
+newest-at image used whole some = saved-at image (trailerPlace (entries used) - bodySize) ∙ ap (savedAt image) (omega arith)
+
+-- "newest entry's N is not this disk's": N stands first in it
+newest-native : (image : List ℕ) (used : ℕ) → used % 560 ≡ 0 → 560 ≤ used → newest image used .native ≡ get 8 image (used - 560)
+unfolding savedAt
+newest-native image used whole some = ap (λ (s : Saved). s .native) (newest-at image used whole some) ∙ ap (get 8 image) (add-zero (used - 560))
 
 pub other-disk : (native : ℕ) (image : List ℕ) (used : ℕ) → used % 560 ≡ 0 → 560 ≤ used → (get 8 image (used - 560) ≡ native → ⊥) → sameDisk native image used ≡ false
 other-disk native image used whole some ne =

@@ -7,6 +7,7 @@ use record::Slot;
 use record::Stage;
 use record::Thermal;
 use record::Transfer;
+use sizes::table;
 ghost use mathlib.Core.Path.{_≡_};
 ghost use mathlib.Core.List.{[]};
 ghost use Prim.Native.Nat.{_<_};
@@ -199,8 +200,8 @@ fn put_table(r: &mut [u8], interval: u16, index: u16)
     requires { ⌜ length (now r) ≡ recordSize ⌝ }
     ensures { λ _. ⌜ now (r .exit) ≡ stores (tableNumbers interval index) (now (r .entry)) ⌝ }
 {
-    wire::put_u16(r, 516, interval);
-    wire::put_u16(r, 544, index);
+    wire::put_u16(r, table::RECORD_INTERVAL_AT, interval);
+    wire::put_u16(r, table::RECORD_INDEX_AT, index);
 }
 
 // Writes the stage of slot p, and nothing else.
