@@ -39,7 +39,7 @@ fn body_holds(image: &[u8], at: usize) -> bool
 {
     let flag = wire::u8_at(image, at + 16);
     let options = wire::u8_at(image, at + 24);
-    let zero = wire::is_zero(image, at + 25, 7);
+    let zero = runs::is_zero(image, at + 25, 7);
     let fixed = soundness::table_fixed(image, at + 32);
     let logged = wire::u16_at(image, at + 36);
     let state = wire::u16_at(image, at + 22);
@@ -65,7 +65,7 @@ fn tag_holds(image: &[u8], at: usize) -> bool
     ensures { λ r. ⌜ r ≡ same (part (now (image .entry)) at 4) tag ⌝ }
 {
     let letters = TAG;
-    wire::same_part(image, at, &letters, 0, 4)
+    runs::same_part(image, at, &letters, 0, 4)
 }
 
 // Whether trailer `number` stands at `at`.

@@ -27,7 +27,7 @@ fn read_sector(r: &mut [u8], area: &mut [u8], disk: &[u8], p: usize, d: Device, 
 {
     let at = MAILBOX * p;
     reply::put_registers(area, at, reply::good(0, 0));
-    wire::copy_part(
+    runs::copy_part(
         area,
         at + REGISTERS,
         disk,
@@ -42,7 +42,7 @@ fn write_sector(r: &mut [u8], area: &mut [u8], disk: &mut [u8], p: usize, d: Dev
     requires { ⌜ Ready (now r) (now area) p d × (sectorSize * lba + sectorSize ≤ length (now disk)) ⌝ }
     ensures { λ _. ⌜ Served p (decision (asDevice d (historyOf (now (r .entry)))) (good 0 0) (writeLba lba (dataOf (slotBytes p (now (area .entry)))))) (stagesOf (d .slots)) (now (area .entry)) (now (disk .entry)) (now (r .exit)) (now (area .exit)) (now (disk .exit)) ⌝ }
 {
-    wire::copy_part(
+    runs::copy_part(
         disk,
         (SECTOR_U64 * lba) as usize,
         area,

@@ -134,7 +134,7 @@ fn put_history(r: &mut [u8], image: &[u8], at: usize, interval: u16)
     ensures { λ _. ⌜ now (r .exit) ≡ (if eqb interval (savedAt (now (image .entry)) at .logInterval .state) then sets (now (r .entry)) (headSize + tableHeadSize) (savedAt (now (image .entry)) at .history) else now (r .entry)) ⌝ }
 {
     if interval == wire::u16_at(image, at + 22) {
-        wire::copy_part(r, 546, image, at + 66, 478);
+        runs::copy_part(r, 546, image, at + 66, 478);
     }
 }
 

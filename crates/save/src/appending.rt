@@ -27,11 +27,11 @@ fn put_trailer(image: &mut [u8], at: usize, number: u32)
     ensures { λ _. ⌜ now (image .exit) ≡ sets (now (image .entry)) at (trailerBytes number) ⌝ }
 {
     let letters = TAG;
-    wire::zero_part(image, at, 12);
+    runs::zero_part(image, at, 12);
     wire::put_u32(image, at, 544);
     wire::put_u32(image, at + 4, previous_place(number));
     wire::put_u32(image, at + 8, number);
-    wire::copy_part(image, at + 12, &letters, 0, 4);
+    runs::copy_part(image, at + 12, &letters, 0, 4);
 }
 
 // The flag in the record's byte at `at`, as 0 or 1.
@@ -56,7 +56,7 @@ fn put_sizes(image: &mut [u8], at: usize, r: &[u8])
     requires { ⌜ (at + headSize ≤ length (now image)) × (length (now r) ≡ recordSize) ⌝ }
     ensures { λ _. ⌜ now (image .exit) ≡ stores (placed at (sizesOf (now (r .entry)))) (sets (now (image .entry)) at (zeros headSize)) ⌝ }
 {
-    wire::zero_part(image, at, 32);
+    runs::zero_part(image, at, 32);
     wire::put_u64(image, at, wire::u64_at(r, 0));
     wire::put_u64(image, at + 8, wire::u64_at(r, 8));
     wire::put_u8(image, at + 16, flag_bit(r, 17));
@@ -82,6 +82,6 @@ pub fn put_entry(image: &mut [u8], used: usize, r: &[u8])
 {
     put_sizes(image, used, r);
     put_features(image, used, r);
-    wire::copy_part(image, used + 32, r, TABLE_AT, SECTOR);
+    runs::copy_part(image, used + 32, r, TABLE_AT, SECTOR);
     put_trailer(image, used + BODY, (used / ENTRY) as u32 + 1);
 }

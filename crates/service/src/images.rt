@@ -85,7 +85,7 @@ pub extern "C" fn sct_power_on(
     if refusal != 0 {
         return refusal;
     }
-    wire::zero_part(area, 0, PRIVATE);
+    runs::zero_part(area, 0, PRIVATE);
     restore::put_restored(device, (disk.len() / SECTOR) as u64, image, at);
     0
 }

@@ -12,7 +12,7 @@ pub fn table_fixed(run: &[u8], at: usize) -> bool
 {
     let versions = wire::u32_at(run, at);
     let limits = wire::u32_at(run, at + 6);
-    let gap = wire::is_zero(run, at + 10, 20);
+    let gap = runs::is_zero(run, at + 10, 20);
     let size = wire::u16_at(run, at + 30);
     (versions == 0x00010002) & (limits == 0xF605463C) & (gap & (size == 478))
 }

@@ -9,7 +9,7 @@ pub fn frame(r: &mut [u8])
     requires { ⌜ length (now r) ≡ recordSize ⌝ }
     ensures { λ _. ⌜ now (r .exit) ≡ blankRecord ⌝ }
 {
-    wire::zero_part(r, 0, 546);
+    runs::zero_part(r, 0, 546);
     wire::put_u32(r, 512, 0x00010002);
     wire::put_u32(r, 518, 0xF605463C);
     wire::put_u16(r, 542, 478);

@@ -20,5 +20,5 @@ pub fn empty_history(r: &mut [u8])
     requires { ⌜ length (now r) ≡ recordSize ⌝ }
     ensures { λ _. ⌜ now (r .exit) ≡ sets (now (r .entry)) (headSize + tableHeadSize) emptyHistory ⌝ }
 {
-    wire::set_part(r, 546, 478, 0x80);
+    runs::set_part(r, 546, 478, 0x80);
 }

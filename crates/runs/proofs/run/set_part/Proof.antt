@@ -1,33 +1,25 @@
--- `wire::copy_within` meets its contract. The invariant: `s` is what it was with the first j bytes copied.
+-- `runs::set_part` meets its contract. The invariant: `s` is what it was with the first j bytes set.
 use native.Mathlib.Numerals.{add-one}
-use Rattle.wire.proofs.NumbersLaws.{getD-sets-before}
 use mathlib.Core.Path.{_≡_, refl, sym, ap, _∙_}
 use Prim.Native.Nat.{_+_, _*_, _-_, _≤_, _<_, zero-le}
 use native.Mathlib.Omega.{arith}
-use lib.ListN.{length, length-set}
+use lib.ListN.{length, length-set, replicate}
 use lib.Seq.{sets}
-use Rattle.wire.specs.Parts.{part}
-use Rattle.wire.proofs.RunLaws.{copy-more}
-use Rattle.wire.proofs.run.copy_within.Statement.{statement}
-use Rattle.wire.proofs.run.copy_within.Tie as tie
+use Rattle.runs.proofs.RunLaws.{replicate-more}
+use Rattle.runs.proofs.run.set_part.Statement.{statement}
+use Rattle.runs.proofs.run.set_part.Tie as tie
 
 abbrev Inv-loop : tie.InvT-loop
-Inv-loop s₀ to from n j₀ s j = (j ≤ n) × (length s ≡ length s₀) × (s ≡ sets s₀ to (part s₀ from j))
+Inv-loop s₀ at n b j₀ s j = (j ≤ n) × (length s ≡ length s₀) × (s ≡ sets s₀ at (replicate j b))
 
 abbrev μ-loop : tie.MeasureT-loop
-μ-loop s₀ to from n j₀ s j = n - j
+μ-loop s₀ at n b j₀ s j = n - j
 
 loop-holds : tie.Need-loop-holds Inv-loop μ-loop
 loop-holds c = (zero-le, refl, refl)
 
 add-s : tie.Need-add-s Inv-loop μ-loop
 add-s c = omega arith
-
-slice-read-s : tie.Need-slice-read-s Inv-loop μ-loop
-slice-read-s c = omega arith
-
-add-s-2 : tie.Need-add-s-2 Inv-loop μ-loop
-add-s-2 c = omega arith
 
 slice-write-s : tie.Need-slice-write-s Inv-loop μ-loop
 slice-write-s c = omega arith
@@ -40,16 +32,11 @@ loop-less c = omega arith
 
 loop-again : tie.Need-loop-again Inv-loop μ-loop
 loop-again c =
-    let g = c .before .before in
+    let g = c .before in
     let a = g .before .args in (
       omega arith,
       simp length-set (g .loop .inv .1),
-      rw (
-        g .loop .inv .2,
-        getD-sets-before (part (a .s .now) (a .from) (g .loop .j)) (a .s .now) (a .to) (a .from + g .loop .j) (omega arith),
-        add-one,
-      )
-          (copy-more (a .s .now) (a .s .now) (a .to) (a .from) (g .loop .j) (omega arith)),
+      rw (g .loop .inv .2, add-one) (replicate-more (a .s .now) (a .at) (g .loop .j) (a .b)),
     )
 
 same-length : tie.Need-same-length Inv-loop μ-loop
@@ -61,16 +48,14 @@ returns c =
     let past : c .before .loop .j ≡ a .n = omega arith in
     rw (c .before .loop .inv .2, past)
 
-pub copy-within-spec : {M : Type 1} → statement M
-copy-within-spec =
+pub set-part-spec : {M : Type 1} → statement M
+set-part-spec =
     tie.close
     (tie.spec
     Inv-loop
     μ-loop
     loop-holds
     add-s
-    slice-read-s
-    add-s-2
     slice-write-s
     add-j
     loop-less

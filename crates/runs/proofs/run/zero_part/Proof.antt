@@ -1,7 +1,7 @@
--- `wire::zero_part` meets its contract.
+-- `runs::zero_part` meets its contract.
 use borrow.Author.Needs.{needs}
-use Rattle.wire.proofs.run.zero_part.Statement.{statement}
-use Rattle.wire.proofs.run.zero_part.Tie as tie
+use Rattle.runs.proofs.run.zero_part.Statement.{statement}
+use Rattle.runs.proofs.run.zero_part.Tie as tie
 
 set-part-requires : tie.Need-set-part-requires
 set-part-requires c κs = search needs

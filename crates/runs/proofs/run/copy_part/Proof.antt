@@ -1,14 +1,14 @@
--- `wire::copy_part` meets its contract. The invariant: `dst` is what it was with the first j bytes copied.
+-- `runs::copy_part` meets its contract. The invariant: `dst` is what it was with the first j bytes copied.
 use native.Mathlib.Numerals.{add-one}
 use mathlib.Core.Path.{_≡_, refl, sym, ap, _∙_}
 use Prim.Native.Nat.{_+_, _*_, _-_, _≤_, _<_, zero-le}
 use native.Mathlib.Omega.{arith}
 use lib.ListN.{length, length-set}
 use lib.Seq.{sets}
 use Rattle.wire.specs.Parts.{part}
-use Rattle.wire.proofs.RunLaws.{copy-more}
-use Rattle.wire.proofs.run.copy_part.Statement.{statement}
-use Rattle.wire.proofs.run.copy_part.Tie as tie
+use Rattle.runs.proofs.RunLaws.{copy-more}
+use Rattle.runs.proofs.run.copy_part.Statement.{statement}
+use Rattle.runs.proofs.run.copy_part.Tie as tie
 
 abbrev Inv-loop : tie.InvT-loop
 Inv-loop dst₀ at src from n j₀ dst j = (j ≤ n) × (length dst ≡ length dst₀) × (dst ≡ sets dst₀ at (part src from j))

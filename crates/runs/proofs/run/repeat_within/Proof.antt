@@ -1,17 +1,17 @@
--- `wire::repeat_within` meets its contract. The invariant: `s` is what it was with the four bytes written k times.
+-- `runs::repeat_within` meets its contract. The invariant: `s` is what it was with the four bytes written k times.
 use mathlib.Core.Path.{_≡_, refl}
 use Prim.Native.Nat.{_+_, _*_, _-_, _≤_, _<_, zero-le}
 use native.Mathlib.Numerals.{add-one}
 use native.Mathlib.Omega.{arith}
 use lib.ListN.{length}
 use lib.Seq.{sets}
 use Rattle.wire.specs.Parts.{part, repeated}
 use Rattle.wire.specs.Bytes.{Bytes}
 use Rattle.wire.proofs.NumbersLaws.{length-put}
 use Rattle.wire.proofs.PartsLaws.{length-part}
-use Rattle.wire.proofs.RunLaws.{put-read, repeat-more}
-use Rattle.wire.proofs.run.repeat_within.Statement.{statement}
-use Rattle.wire.proofs.run.repeat_within.Tie as tie
+use Rattle.runs.proofs.RunLaws.{put-read, repeat-more}
+use Rattle.runs.proofs.run.repeat_within.Statement.{statement}
+use Rattle.runs.proofs.run.repeat_within.Tie as tie
 
 abbrev Inv-loop : tie.InvT-loop
 Inv-loop s₀ to from times word k₀ s k = (k ≤ times) × (length s ≡ length s₀) × (s ≡ sets s₀ to (repeated k (part s₀ from 4)))

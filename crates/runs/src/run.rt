@@ -1,12 +1,12 @@
 // Runs of bytes: copied, set, compared and repeated.
-use crate::number::put_u32;
-use crate::number::u32_at;
+use wire::put_u32;
+use wire::u32_at;
 ghost use mathlib.Core.Path.{_≡_};
 ghost use Prim.Native.Nat.{_+_, _*_, _≤_};
 ghost use lib.ListN.{length, replicate};
 ghost use lib.Seq.{sets};
 ghost use Rattle.wire.specs.Parts.{part, zeros, repeated};
 ghost use Rattle.wire.specs.Bytes.{same, allZero};
 
 // Copies the n bytes of src from `from` into dst from `at`.
 pub fn copy_part(dst: &mut [u8], at: usize, src: &[u8], from: usize, n: usize)
