@@ -1,7 +1,7 @@
 // The steps of a port: take, serve, give.
-use crate::checks::mailbox_refusal;
-use crate::checks::serve_refusal;
-use crate::checks::visible_len;
+use checks::mailbox_refusal;
+use checks::serve_refusal;
+use checks::visible_len;
 use record::Stage;
 use sizes::MAILBOX;
 ghost use mathlib.Core.Path.{_≡_};

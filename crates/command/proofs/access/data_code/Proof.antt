@@ -1,5 +1,5 @@
 -- `command::data_code` meets its contract.
-use Rattle.command.proofs.TestLaws.{passed, failed}
+use Rattle.wire.proofs.ChoiceLaws.{passed, failed}
 use borrow.Author.Tests.{eq-eqb, ne-eqb}
 use borrow.Author.Needs.{needs}
 use Rattle.command.proofs.access.data_code.Statement.{statement}

@@ -1,5 +1,5 @@
 -- `command::feature_key` meets its contract.
-use Rattle.command.proofs.TestLaws.{passed, failed}
+use Rattle.wire.proofs.ChoiceLaws.{passed, failed}
 use borrow.Author.Tests.{eq-eqb, ne-eqb}
 use Rattle.model.specs.Key.{patternSector}
 use borrow.Author.Needs.{needs}

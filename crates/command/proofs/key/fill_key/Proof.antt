@@ -1,5 +1,5 @@
 -- `command::fill_key` meets its contract.
-use Rattle.command.proofs.TestLaws.{passed, failed}
+use Rattle.wire.proofs.ChoiceLaws.{passed, failed}
 use borrow.Author.Tests.{lt-leb, le-leb, leb-true}
 use Rattle.model.specs.Key.{patternSector}
 use Prim.Native.Nat.{_+_, _-_}

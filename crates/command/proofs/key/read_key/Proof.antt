@@ -1,5 +1,5 @@
 -- `command::read_key` meets its contract.
-use Rattle.command.proofs.TestLaws.{passed, failed}
+use Rattle.wire.proofs.ChoiceLaws.{passed, failed}
 use mathlib.Core.Path.{_∙_, sym}
 use native.Mathlib.Omega.{arith}
 use Rattle.wire.specs.Parts.{part}

@@ -1,5 +1,5 @@
 -- `command::timer_key` meets its contract.
-use Rattle.command.proofs.TestLaws.{passed, failed}
+use Rattle.wire.proofs.ChoiceLaws.{passed, failed}
 use borrow.Author.Tests.{eq-eqb, ne-eqb}
 use mathlib.Core.Path.{_∙_, sym}
 use Rattle.model.specs.Key.{setTimer, timerName}

@@ -4,7 +4,7 @@ use Prim.Native.Nat.{_<_}
 use native.Mathlib.Omega.{arith}
 use lib.ListN.{length-take}
 use Rattle.model.specs.Sizes.{portCount}
-use Rattle.service.proofs.CheckLaws.{DiskPassed, serve-passed}
+use Rattle.checks.proofs.CheckLaws.{DiskPassed, serve-passed}
 use Rattle.service.proofs.StepLaws.{serve-refused, serve-done}
 use Rattle.service.proofs.VisibleLaws.{Seen, seen-part, serve-record, serve-area, serve-disk}
 use borrow.Author.Needs.{needs}
