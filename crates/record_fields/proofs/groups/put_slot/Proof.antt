@@ -1,8 +1,8 @@
--- `writing::fields::put_slot` meets its contract.
+-- `record_fields::put_slot` meets its contract.
 use native.Mathlib.Omega.{arith}
 use borrow.Author.Needs.{needs}
-use Rattle.writing.proofs.fields.put_slot.Statement.{statement}
-use Rattle.writing.proofs.fields.put_slot.Tie as tie
+use Rattle.record_fields.proofs.groups.put_slot.Statement.{statement}
+use Rattle.record_fields.proofs.groups.put_slot.Tie as tie
 
 mul-at : tie.Need-mul-at
 mul-at c = search needs

@@ -1,8 +1,8 @@
--- `writing::fields::put_command` meets its contract.
+-- `record_fields::put_command` meets its contract.
 use native.Mathlib.Omega.{arith}
 use borrow.Author.Needs.{needs}
-use Rattle.writing.proofs.fields.put_command.Statement.{statement}
-use Rattle.writing.proofs.fields.put_command.Tie as tie
+use Rattle.record_fields.proofs.groups.put_command.Statement.{statement}
+use Rattle.record_fields.proofs.groups.put_command.Tie as tie
 
 fill-kind-requires : tie.Need-fill-kind-requires
 fill-kind-requires c κs = search needs

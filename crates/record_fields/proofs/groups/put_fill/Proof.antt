@@ -1,8 +1,8 @@
--- `writing::fields::put_fill` meets its contract.
+-- `record_fields::put_fill` meets its contract.
 use native.Mathlib.Omega.{arith}
 use borrow.Author.Needs.{needs}
-use Rattle.writing.proofs.fields.put_fill.Statement.{statement}
-use Rattle.writing.proofs.fields.put_fill.Tie as tie
+use Rattle.record_fields.proofs.groups.put_fill.Statement.{statement}
+use Rattle.record_fields.proofs.groups.put_fill.Tie as tie
 
 fill-first-requires : tie.Need-fill-first-requires
 fill-first-requires c κs = search needs

@@ -1,13 +1,13 @@
--- `writing::fields::put_slots` meets its contract: the four slots of the array are its list.
+-- `record_fields::put_slots` meets its contract: the four slots of the array are its list.
 use mathlib.Core.Path.{_≡_, ap}
 use mathlib.Core.List.{List}
 use lib.ListN.{length}
 use native.Mathlib.Omega.{arith}
 use Rattle.wire.specs.Layout.{Field, stores}
-use Rattle.writing.proofs.SlotsLaws.{slots-fields-four, slots-fit}
+use Rattle.record_fields.proofs.SlotsLaws.{slots-fields-four, slots-fit}
 use borrow.Author.Needs.{needs}
-use Rattle.writing.proofs.fields.put_slots.Statement.{statement}
-use Rattle.writing.proofs.fields.put_slots.Tie as tie
+use Rattle.record_fields.proofs.groups.put_slots.Statement.{statement}
+use Rattle.record_fields.proofs.groups.put_slots.Tie as tie
 
 array-copy-out-a : tie.Need-array-copy-out-a
 array-copy-out-a c = search needs

@@ -1,8 +1,8 @@
--- `writing::fields::put_settings` meets its contract.
+-- `record_fields::put_settings` meets its contract.
 use native.Mathlib.Omega.{arith}
 use borrow.Author.Needs.{needs}
-use Rattle.writing.proofs.fields.put_settings.Statement.{statement}
-use Rattle.writing.proofs.fields.put_settings.Tie as tie
+use Rattle.record_fields.proofs.groups.put_settings.Statement.{statement}
+use Rattle.record_fields.proofs.groups.put_settings.Tie as tie
 
 put-u16-requires : tie.Need-put-u16-requires
 put-u16-requires c κs = search needs

@@ -1,8 +1,8 @@
--- `writing::fields::put_sizes` meets its contract.
+-- `record_fields::put_sizes` meets its contract.
 use native.Mathlib.Omega.{arith}
 use borrow.Author.Needs.{needs}
-use Rattle.writing.proofs.fields.put_sizes.Statement.{statement}
-use Rattle.writing.proofs.fields.put_sizes.Tie as tie
+use Rattle.record_fields.proofs.groups.put_sizes.Statement.{statement}
+use Rattle.record_fields.proofs.groups.put_sizes.Tie as tie
 
 put-u64-requires : tie.Need-put-u64-requires
 put-u64-requires c κs = search needs
