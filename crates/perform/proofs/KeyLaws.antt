@@ -10,7 +10,7 @@ use Rattle.wire.specs.Choice.{if_then_else_}
 use Rattle.wire.specs.Bytes.{Bytes}
 use Rattle.wire.specs.Numbers.{get}
 use Rattle.wire.specs.Parts.{part}
-use Rattle.wire.proofs.PartsLaws.{part-part}
+use Rattle.wire.proofs.PartsLaws.{part-part, number-first, number-of}
 use Rattle.wire.proofs.WithinLaws.{sets-apart}
 use Rattle.model.specs.Sizes.{sectorSize, registersSize}
 use Rattle.model.specs.Device.{Device}
@@ -32,12 +32,11 @@ use Rattle.record.specs.Meaning.{asSettings, asDevice, asContents, stagesOf, hi
 use Rattle.writing.specs.Framed.{Framed}
 use Rattle.writing.proofs.FramedLaws.{emptied-framed}
 use Rattle.writing.proofs.HistoryLaws.{history-emptied}
-use Rattle.command.specs.Meaning.{asAction, asVerdict, refusalOf}
+use Rattle.key.specs.Meaning.{asAction, asVerdict, refusalOf}
 use Rattle.reply.specs.Meaning.{asRegisters}
-use Rattle.command.specs.declared.key as key
-use Rattle.command.specs.declared.key.KeyRead.the-variants.{Accepted, Refused}
+use Rattle.key.specs.declared.key as key
+use Rattle.key.specs.declared.key.KeyRead.the-variants.{Accepted, Refused}
 use Rattle.reply.specs.declared.registers as reply
-use Rattle.command.proofs.SlotLaws.{number-first, number-of}
 use Rattle.control.specs.Change.{Changed}
 use Rattle.perform.specs.Served.{Carried, Replied, historyAfter, empties, Served, ServedBeside, Entered, withoutEffect}
 use Rattle.perform.proofs.AnswerLaws.{served-as, changed-served, changed-then}

@@ -12,13 +12,15 @@ use Rattle.model.specs.Decide.{decision, beginFill, carryOut}
 use Rattle.model.specs.Temperature.{emptyHistory}
 use Rattle.store.specs.Record.{fillKind, fillFirst, fillEnd}
 use Rattle.record.specs.declared.device as code
-use Rattle.record.specs.Meaning.{asSettings, asDevice}
-use Rattle.command.specs.Meaning.{asFeatureName, asAction}
+use Rattle.record.specs.Meaning.{asSettings, asDevice, asFeatureName}
+use Rattle.key.specs.Meaning.{asAction}
 use Rattle.reply.specs.Meaning.{asRegisters}
-use Rattle.command.specs.declared.key as key
+use Rattle.record.specs.declared.names as names
+use Rattle.key.specs.declared.key as key
 use Rattle.reply.specs.declared.registers as reply
-use Rattle.command.specs.declared.key.Action.the-variants.{FillPattern, FillSector, SetTimer, ReturnTimer, SetFeature, ReturnState, ReturnOption, SendTable}
-use Rattle.control.specs.Change.{Changed, FeatureSet, historyFor, isInterval}
+use Rattle.key.specs.declared.key.Action.the-variants.{FillPattern, FillSector, SetTimer, ReturnTimer, SetFeature, ReturnState, ReturnOption, SendTable}
+use Rattle.control.specs.Change.{Changed}
+use Rattle.settings.specs.Features.{FeatureSet, historyFor, isInterval}
 use Rattle.perform.specs.Served.{Carried, Replied, empties, begun, historyAfter, withoutEffect}
 
 module _ (a : key.Action.Action) (p : ℕ) (d : code.Device.Device) (kept : empties a ≡ false) where
@@ -41,7 +43,7 @@ history-for writeCache h = refl
 history-for reordering h = refl
 history-for logInterval h = refl
 
-pub carried-feature : (name : key.FeatureName.FeatureName) (n : ℕ) (keep : Bool) (p : ℕ) (d e : code.Device.Device) → FeatureSet (asFeatureName name) n keep d e → Carried (SetFeature name n keep) p d e
+pub carried-feature : (name : names.FeatureName.FeatureName) (n : ℕ) (keep : Bool) (p : ℕ) (d e : code.Device.Device) → FeatureSet (asFeatureName name) n keep d e → Carried (SetFeature name n keep) p d e
 unfolding carryOut
 carried-feature name n keep p d e s =
     record {

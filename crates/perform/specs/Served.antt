@@ -14,15 +14,15 @@ use Rattle.store.specs.Areas.{headSize, privateSize}
 use Rattle.store.specs.Record.{Stage}
 use Rattle.store.specs.Sound.{sound}
 use Rattle.store.specs.Entries.{ServeAfter, performed}
-use Rattle.record.specs.Meaning.{asSettings, asDevice, stagesOf}
+use Rattle.record.specs.Meaning.{asSettings, asDevice, stagesOf, asFeatureName}
 use Rattle.writing.specs.Framed.{Framed}
 use Rattle.record.specs.declared.device as code
-use Rattle.command.specs.Meaning.{asFeatureName, asAction}
+use Rattle.key.specs.Meaning.{asAction}
 use Rattle.reply.specs.Meaning.{asRegisters}
-use Rattle.command.specs.declared.key as key
+use Rattle.key.specs.declared.key as key
 use Rattle.reply.specs.declared.registers as reply
-use Rattle.command.specs.declared.key.Action.the-variants.{FillPattern, FillSector, SetTimer, ReturnTimer, SetFeature, ReturnState, ReturnOption, SendTable}
-use Rattle.control.specs.Change.{isInterval}
+use Rattle.key.specs.declared.key.Action.the-variants.{FillPattern, FillSector, SetTimer, ReturnTimer, SetFeature, ReturnState, ReturnOption, SendTable}
+use Rattle.settings.specs.Features.{isInterval}
 
 -- ---- an accepted key
 

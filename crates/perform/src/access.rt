@@ -1,8 +1,8 @@
 // One sector read or written (24h and 34h).
 use crate::answering::answer;
 use crate::answering::finish;
-use command::Direction;
 use record::Device;
+use record::Direction;
 use sizes::MAILBOX;
 use sizes::REGISTERS;
 use sizes::SECTOR;
@@ -16,8 +16,7 @@ ghost use Rattle.model.specs.Fill.{interrupt};
 ghost use Rattle.model.specs.Decide.{decision, readLba, writeLba, sectorEffect, decideSector};
 ghost use Rattle.store.specs.Record.{decode};
 ghost use Rattle.store.specs.Store.{slotBytes};
-ghost use Rattle.record.specs.Meaning.{asDevice, stagesOf, historyOf};
-ghost use Rattle.command.specs.Meaning.{asDirection};
+ghost use Rattle.record.specs.Meaning.{asDevice, stagesOf, historyOf, asDirection};
 ghost use Rattle.perform.specs.Served.{Served, Entered, Ready};
 
 // Leaves the registers of a good reply, and behind them the sector's bytes.
@@ -86,7 +85,7 @@ pub fn serve_sector(
     ensures { λ _. ⌜ Served p (decideSector (asDirection dir) count lba (dataOf (slotBytes p (now (area .entry)))) (interrupt (decode (now (r .entry)) .device))) (decode (now (r .entry)) .stages) (now (area .entry)) (now (disk .entry)) (now (r .exit)) (now (area .exit)) (now (disk .exit)) ⌝ }
 {
     let d = record::decode(r);
-    let error = command::sector_error(d.locked, d.visible, count, lba);
+    let error = request::sector_error(d.locked, d.visible, count, lba);
     let e = control::interrupt(d);
     if error != 0 {
         answer(r, area, p, e, reply::refused(error));

@@ -4,7 +4,7 @@ use crate::keys::serve_key;
 use crate::plain::serve_other;
 use crate::plain::serve_status;
 use crate::transfer::serve_data;
-use command::Request;
+use request::Request;
 use sizes::MAILBOX;
 ghost use mathlib.Core.Path.{_≡_};
 ghost use Prim.Native.Nat.{_*_};
@@ -20,7 +20,7 @@ pub fn serve(r: &mut [u8], area: &mut [u8], disk: &mut [u8], p: usize)
     requires { ⌜ Entered (now r) (now area) p × (length (now disk) ≡ sectorSize * decode (now r) .device .visible) ⌝ }
     ensures { λ _. ⌜ Served p (decide p (slotBytes p (now (area .entry))) (decode (now (r .entry)) .device)) (decode (now (r .entry)) .stages) (now (area .entry)) (now (disk .entry)) (now (r .exit)) (now (area .exit)) (now (disk .exit)) ⌝ }
 {
-    let q = command::request_of(area, MAILBOX * p);
+    let q = request::request_of(area, MAILBOX * p);
     match q {
         Request::Status => serve_status(r, area, p),
         Request::Key => serve_key(r, area, p),

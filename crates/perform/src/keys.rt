@@ -6,8 +6,8 @@ use crate::outcome::begun;
 use crate::outcome::carried;
 use crate::outcome::empties;
 use crate::outcome::reply_of;
-use command::Action;
-use command::KeyRead;
+use key::Action;
+use key::KeyRead;
 use record::Device;
 use record::Fill;
 use sizes::MAILBOX;
@@ -24,7 +24,7 @@ ghost use Rattle.model.specs.Decide.{decision, nothing, beginFill, carryOut, de
 ghost use Rattle.store.specs.Record.{decode};
 ghost use Rattle.store.specs.Store.{slotBytes};
 ghost use Rattle.record.specs.Meaning.{asDevice, stagesOf, historyOf};
-ghost use Rattle.command.specs.Meaning.{asAction};
+ghost use Rattle.key.specs.Meaning.{asAction};
 ghost use Rattle.control.specs.Change.{Changed};
 ghost use Rattle.perform.specs.Served.{ServedBeside, Entered, Ready, withoutEffect};
 
@@ -78,9 +78,9 @@ pub fn serve_key(r: &mut [u8], area: &mut [u8], p: usize)
     let at = MAILBOX * p + REGISTERS;
     let d = record::decode(r);
     let e = recorded(area, at, d);
-    let key = command::read_key(area, at, d.locked, d.visible);
+    let key = key::read_key(area, at, d.locked, d.visible);
     let KeyRead::Accepted(action) = key else {
-        let code = command::refusal_of(key);
+        let code = key::refusal_of(key);
         answer(
             r,
             area,

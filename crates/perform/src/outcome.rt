@@ -1,7 +1,7 @@
 // What an accepted key does to the device, and the registers of its reply.
-use command::Action;
-use command::FeatureName;
+use key::Action;
 use record::Device;
+use record::FeatureName;
 use record::Fill;
 use record::Settings;
 use record::Transfer;
@@ -12,8 +12,7 @@ ghost use Prim.Native.Nat.{ℕ, _<_};
 ghost use lib.ListN.{length};
 ghost use Rattle.wire.specs.Choice.{bit};
 ghost use Rattle.model.specs.Decide.{carryOut, feature};
-ghost use Rattle.record.specs.Meaning.{asFill, asSettings};
-ghost use Rattle.command.specs.Meaning.{asFeatureName};
+ghost use Rattle.record.specs.Meaning.{asFill, asSettings, asFeatureName};
 ghost use Rattle.reply.specs.Meaning.{asRegisters};
 ghost use Rattle.perform.specs.Served.{Carried, Replied, empties, begun};
 
@@ -26,7 +25,7 @@ pub fn empties(action: Action) -> bool
         Action::FillSector(_, _) => false,
         Action::SetTimer(_, _) => false,
         Action::ReturnTimer(_) => false,
-        Action::SetFeature(name, _, _) => control::is_interval(name),
+        Action::SetFeature(name, _, _) => settings::is_interval(name),
         Action::ReturnState(_) => false,
         Action::ReturnOption(_) => false,
         Action::SendTable => false,
@@ -59,9 +58,9 @@ pub fn carried(d: Device, p: usize, action: Action) -> Device
         Action::FillSector(first, end) => {
             control::with_pending(d, p, Transfer::FillData(first, end))
         }
-        Action::SetTimer(dir, n) => control::set_timer(d, dir, n),
+        Action::SetTimer(dir, n) => settings::set_timer(d, dir, n),
         Action::ReturnTimer(_) => d,
-        Action::SetFeature(name, n, keep) => control::set_feature(d, name, n, keep),
+        Action::SetFeature(name, n, keep) => settings::set_feature(d, name, n, keep),
         Action::ReturnState(_) => d,
         Action::ReturnOption(_) => d,
         Action::SendTable => control::with_pending(d, p, Transfer::Table),
@@ -71,7 +70,7 @@ pub fn carried(d: Device, p: usize, action: Action) -> Device
 fn state_of(name: FeatureName, s: Settings) -> u16
     ensures { λ r. ⌜ r ≡ feature (asFeatureName name) (asSettings s) .state ⌝ }
 {
-    let f = control::feature(name, s);
+    let f = settings::feature(name, s);
     f.state
 }
 
@@ -79,7 +78,7 @@ fn state_of(name: FeatureName, s: Settings) -> u16
 fn option_of(name: FeatureName, s: Settings) -> u16
     ensures { λ r. ⌜ r ≡ bit (feature (asFeatureName name) (asSettings s) .persistent) ⌝ }
 {
-    let f = control::feature(name, s);
+    let f = settings::feature(name, s);
     if f.persistent { 1 } else { 0 }
 }
 
@@ -92,7 +91,7 @@ pub fn reply_of(s: Settings, action: Action) -> Reply
         Action::FillPattern(_, _) => reply::good(0, 0),
         Action::FillSector(_, _) => reply::good(0, 1),
         Action::SetTimer(_, _) => reply::good(0, 0),
-        Action::ReturnTimer(dir) => reply::good(control::timer(dir, s), 0),
+        Action::ReturnTimer(dir) => reply::good(settings::timer(dir, s), 0),
         Action::SetFeature(_, _, _) => reply::good(0, 0),
         Action::ReturnState(name) => reply::good(state_of(name, s), 0),
         Action::ReturnOption(name) => reply::good(option_of(name, s), 0),

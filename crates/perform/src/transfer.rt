@@ -2,8 +2,8 @@
 use crate::answering::answer;
 use crate::answering::begin_fill;
 use crate::answering::finish;
-use command::Direction;
 use record::Device;
+use record::Direction;
 use record::Fill;
 use record::Transfer;
 use sizes::MAILBOX;
@@ -20,8 +20,7 @@ ghost use Rattle.store.specs.Areas.{slotPlace};
 ghost use Rattle.store.specs.Record.{answered, decode, encode};
 ghost use Rattle.store.specs.Store.{slotBytes};
 ghost use Rattle.store.specs.Entries.{withStage};
-ghost use Rattle.record.specs.Meaning.{asTransfer, asFill, asContents, pendingOf, historyOf};
-ghost use Rattle.command.specs.Meaning.{asDirection};
+ghost use Rattle.record.specs.Meaning.{asTransfer, asFill, asContents, pendingOf, historyOf, asDirection};
 ghost use Rattle.perform.specs.Served.{ServedBeside, Entered, Ready, begunBy};
 
 // What the port p has pending.
@@ -62,7 +61,7 @@ pub fn serve_data(r: &mut [u8], area: &mut [u8], p: usize, dir: Direction, count
 {
     let d = record::decode(r);
     let t = pending_of(d, p);
-    let code = command::data_code(d.locked, dir, count, t);
+    let code = request::data_code(d.locked, dir, count, t);
     let e = control::interrupt(d);
     let f = control::with_code(e, code);
     if code != 0 {

@@ -1,6 +1,6 @@
 -- `perform::access::serve_sector` meets its contract.
 use native.Mathlib.Omega.{arith}
-use Rattle.command.specs.Meaning.{asDirection}
+use Rattle.record.specs.Meaning.{asDirection}
 use Rattle.store.proofs.SoundLaws.{sound-parts}
 use Rattle.control.proofs.ChangeLaws.{four-slots}
 use Rattle.perform.specs.Served.{Ready}

@@ -1,6 +1,6 @@
 -- `perform::choice::serve` meets its contract.
 use mathlib.Core.Path.{_∙_, ap, sym}
-use Rattle.command.specs.Meaning.{asRequest}
+use Rattle.request.specs.Meaning.{asRequest}
 use Rattle.store.specs.Record.{decode}
 use Rattle.store.specs.Store.{slotBytes}
 use Rattle.perform.proofs.ChoiceLaws.{decides}

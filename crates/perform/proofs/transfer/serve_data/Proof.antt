@@ -2,8 +2,7 @@
 use lib.Seq.{length-sets}
 use mathlib.Core.Path.{_∙_, ap, sym}
 use native.Mathlib.Omega.{arith}
-use Rattle.record.specs.Meaning.{asTransfer, asFill}
-use Rattle.command.specs.Meaning.{asDirection}
+use Rattle.record.specs.Meaning.{asTransfer, asFill, asDirection}
 use Rattle.store.proofs.SoundLaws.{sound-parts}
 use Rattle.control.proofs.ChangeLaws.{four-slots}
 use Rattle.perform.specs.Served.{Ready}
