@@ -2,4 +2,3 @@
 pub mod ChangeLaws
 pub mod InterruptLaw
 pub mod SlotLaws
-pub mod SettingsLaws

@@ -6,7 +6,7 @@ use Prim.Native.Nat.{ℕ, _+_}
 use native.Mathlib.Omega.{arith}
 use Rattle.wire.specs.Numbers.{get}
 use Rattle.wire.specs.Parts.{part}
-use Rattle.wire.proofs.PartsLaws.{part-part}
+use Rattle.wire.proofs.PartsLaws.{part-part, number-first, number-of}
 use Rattle.model.specs.Sizes.{sectorSize, registersSize}
 use Rattle.model.specs.Device.{Device}
 use Rattle.model.specs.Update.{withCode, withKey}
@@ -18,12 +18,12 @@ use Rattle.model.proofs.RequestLaws.{interrupt-kept}
 use Rattle.store.specs.Areas.{slotSize, slotPlace}
 use Rattle.store.specs.Store.{slotBytes}
 use Rattle.record.specs.declared.device as device
-use Rattle.record.specs.Meaning.{asDevice}
-use Rattle.command.specs.Meaning.{asFeatureName, asAction, asVerdict, refusalOf}
-use Rattle.command.specs.declared.key as key
-use Rattle.command.specs.declared.key.KeyRead.the-variants.{Accepted, Refused}
-use Rattle.command.proofs.SlotLaws.{number-first, number-of}
-use Rattle.control.specs.Change.{Changed, FeatureSet, isInterval, historyFor}
+use Rattle.record.specs.Meaning.{asDevice, asFeatureName}
+use Rattle.key.specs.Meaning.{asAction, asVerdict, refusalOf}
+use Rattle.key.specs.declared.key as key
+use Rattle.key.specs.declared.key.KeyRead.the-variants.{Accepted, Refused}
+use Rattle.control.specs.Change.{Changed}
+use Rattle.settings.specs.Features.{FeatureSet, isInterval, historyFor}
 use Rattle.decide.specs.declared.decision as code
 use Rattle.decide.specs.Meaning.{asEffect, historyAfter, Says, Decided}
 use Rattle.decide.proofs.DecidedLaws.{changed-then, says-decided, decided-as, decided-then}

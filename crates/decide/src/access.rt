@@ -5,8 +5,8 @@ use crate::decision::Writing;
 use crate::decision::answered;
 use crate::decision::sent;
 use crate::decision::written;
-use command::Direction;
 use record::Device;
+use record::Direction;
 use record::Transfer;
 ghost use mathlib.Core.Path.{_≡_};
 ghost use mathlib.Core.List.{List};
@@ -17,8 +17,7 @@ ghost use Rattle.model.specs.Device.{none};
 ghost use Rattle.model.specs.Registers.{dataOf, good};
 ghost use Rattle.model.specs.Fill.{interrupt};
 ghost use Rattle.model.specs.Decide.{decision, transferEffect, sectorEffect, pendingFor, decideData, decideSector};
-ghost use Rattle.record.specs.Meaning.{asTransfer, pendingOf};
-ghost use Rattle.command.specs.Meaning.{asDirection};
+ghost use Rattle.record.specs.Meaning.{asTransfer, pendingOf, asDirection};
 ghost use Rattle.decide.specs.Meaning.{Decided};
 
 // What the port p has pending.
@@ -48,7 +47,7 @@ pub fn decide_data(d: Device, p: usize, dir: Direction, count: u16) -> Decision
     ensures { λ k. ⌜ ((m : List ℕ) → Decided m (λ x. decideData (asDirection dir) count (pendingFor p x) (dataOf m) (interrupt x)) d k) ⌝ }
 {
     let t = pending_of(d, p);
-    let code = command::data_code(d.locked, dir, count, t);
+    let code = request::data_code(d.locked, dir, count, t);
     let stopped = control::interrupt(d);
     let e = control::with_code(stopped, code);
     if code != 0 {
@@ -72,7 +71,7 @@ pub fn decide_sector(d: Device, dir: Direction, count: u16, lba: u64) -> Decisio
     requires { ⌜ length (d .slots) ≡ portCount ⌝ }
     ensures { λ k. ⌜ ((m : List ℕ) → Decided m (λ x. decideSector (asDirection dir) count lba (dataOf m) (interrupt x)) d k) ⌝ }
 {
-    let error = command::sector_error(d.locked, d.visible, count, lba);
+    let error = request::sector_error(d.locked, d.visible, count, lba);
     let e = control::interrupt(d);
     if error != 0 {
         return answered(e, reply::refused(error));

@@ -13,7 +13,7 @@ use Rattle.wire.specs.Choice.{if_then_else_}
 use Rattle.wire.specs.Bytes.{Bytes}
 use Rattle.wire.specs.Parts.{part, repeated}
 use Rattle.wire.proofs.PartsLaws.{length-part, length-repeated, sets-front}
-use Rattle.wire.proofs.RunLaws.{repeat-more}
+use Rattle.runs.proofs.RunLaws.{repeat-more}
 use Rattle.model.specs.Sizes.{sectorSize}
 use Rattle.model.specs.Device.{Fill, idle, running, Device}
 use Rattle.model.specs.Update.{withInitialized}

@@ -21,7 +21,7 @@ pub fn put_pattern(area: &mut [u8], p: usize)
     requires { ⌜ (length (now area) ≡ privateSize) × (p < portCount) ⌝ }
     ensures { λ _. ⌜ now (area .exit) ≡ sets (now (area .entry)) fillPlace (patternSector (dataOf (slotBytes p (now (area .entry))))) ⌝ }
 {
-    wire::repeat_within(area, FILL_AT, MAILBOX * p + PATTERN_AT, 128);
+    runs::repeat_within(area, FILL_AT, MAILBOX * p + PATTERN_AT, 128);
 }
 
 // The sector that slot p holds.
@@ -29,5 +29,5 @@ pub fn put_data(area: &mut [u8], p: usize)
     requires { ⌜ (length (now area) ≡ privateSize) × (p < portCount) ⌝ }
     ensures { λ _. ⌜ now (area .exit) ≡ sets (now (area .entry)) fillPlace (dataOf (slotBytes p (now (area .entry)))) ⌝ }
 {
-    wire::copy_within(area, FILL_AT, MAILBOX * p + REGISTERS, SECTOR);
+    runs::copy_within(area, FILL_AT, MAILBOX * p + REGISTERS, SECTOR);
 }

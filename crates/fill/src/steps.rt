@@ -64,7 +64,7 @@ fn write_sectors(disk: &mut [u8], area: &[u8], next: u64, k: u32)
     let mut at = (SECTOR_U64 * next) as usize;
     let mut j = 0;
     while j < k {
-        wire::copy_part(disk, at, area, FILL_AT, SECTOR);
+        runs::copy_part(disk, at, area, FILL_AT, SECTOR);
         at += SECTOR;
         j += 1;
     }

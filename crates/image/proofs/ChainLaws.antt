@@ -1,40 +1,40 @@
 -- One turn of the chain, as the code makes it, and the whole chain as readability.
 use mathlib.Core.Path.{_≡_, sym, ap, _∙_}
-use mathlib.Core.Bool.{true, false, _&&_}
-use Prim.Native.Nat.{ℕ, zero, suc, _+_, _-_, _*_, _/_, _%_, _≤_, _<_}
+use mathlib.Core.Bool.{Bool, true, false, _&&_}
+use Prim.Native.Nat.{ℕ, zero, suc, _+_, _-_, _*_, _%_, _≤_, _<_}
 use native.Mathlib.Omega.{arith}
 use mathlib.Core.List.{List}
 use lib.Dec.{eqb}
 use borrow.Author.Tests.{eq-eqb, ne-eqb, le-leb, lt-leb}
 use Rattle.wire.specs.Numbers.{get}
-use Rattle.model.specs.Sizes.{entrySize, entryLimit}
-use Rattle.model.specs.Image.{trailerPlace, previousPlace, entryHolds, newest, readable, chainHolds}
-use Rattle.model.proofs.ImageLaws.{chain-every, newest-native}
+use Rattle.model.specs.Sizes.{trailerSize, entrySize, entryLimit}
+use Rattle.model.specs.Image.{Saved, savedAt, trailerPlace, noTrailer, previousPlace, linkPlace, entryHolds, entries, newest, readable, chainHolds}
+use Rattle.model.proofs.ImageLaws.{chain-every, newest-at}
 
-module _ (native : ℕ) (image : List ℕ) where
-  pub chain-none : (k at : ℕ) → k ≡ 0 → eqb at 0xFFFFFFFF ≡ chainHolds native image k at
+module _ (latest : Saved) (image : List ℕ) where
+  pub chain-none : (k at : ℕ) → k ≡ 0 → eqb at noTrailer ≡ chainHolds latest image k at
   unfolding chainHolds
-  chain-none k at e = ap (λ (n : ℕ). chainHolds native image n at) (sym e)
+  chain-none k at e = ap (λ (n : ℕ). chainHolds latest image n at) (sym e)
 
   -- entry k, and the chain from the place that its trailer names
   chain-turn : (k at : ℕ) → 1 ≤ k
-      → chainHolds native image k at ≡ (eqb at (trailerPlace k) && entryHolds native image k && chainHolds native image (k - 1) (get 4 image (at + 4)))
+      → chainHolds latest image k at ≡ (eqb at (trailerPlace k) && entryHolds latest image k && chainHolds latest image (k - 1) (get 4 image (at + linkPlace)))
   unfolding chainHolds
   chain-turn zero at h = absurd (omega arith)
   chain-turn (suc k) at h =
-      ap (λ (n : ℕ). eqb at (trailerPlace (suc k)) && entryHolds native image (suc k) && chainHolds native image n (get 4 image (at + 4))) (less k)
+      ap (λ (n : ℕ). eqb at (trailerPlace (suc k)) && entryHolds latest image (suc k) && chainHolds latest image n (get 4 image (at + linkPlace))) (less k)
     where
       less : (k : ℕ) → k ≡ suc k - 1
       less k = omega arith
 
-  pub chain-astray : (k at : ℕ) → 1 ≤ k → (at ≡ trailerPlace k → ⊥) → false ≡ chainHolds native image k at
+  pub chain-astray : (k at : ℕ) → 1 ≤ k → (at ≡ trailerPlace k → ⊥) → false ≡ chainHolds latest image k at
   chain-astray k at h ne = sym (chain-turn k at h ∙ rw (ne-eqb at (trailerPlace k) ne))
 
-  pub chain-broken : (k at : ℕ) → 1 ≤ k → at ≡ trailerPlace k → entryHolds native image k ≡ false → false ≡ chainHolds native image k at
+  pub chain-broken : (k at : ℕ) → 1 ≤ k → at ≡ trailerPlace k → entryHolds latest image k ≡ false → false ≡ chainHolds latest image k at
   chain-broken k at h e f = sym (chain-turn k at h ∙ rw (eq-eqb at (trailerPlace k) e, f))
 
-  pub chain-on : (k at : ℕ) → 1 ≤ k → at ≡ trailerPlace k → entryHolds native image k ≡ true
-      → chainHolds native image (k - 1) (get 4 image (at + 4)) ≡ chainHolds native image k at
+  pub chain-on : (k at : ℕ) → 1 ≤ k → at ≡ trailerPlace k → entryHolds latest image k ≡ true
+      → chainHolds latest image (k - 1) (get 4 image (at + linkPlace)) ≡ chainHolds latest image k at
   chain-on k at h e t = sym (chain-turn k at h ∙ rw (eq-eqb at (trailerPlace k) e, t))
 
 -- ---- readable
@@ -52,14 +52,16 @@ module _ (image : List ℕ) (used : ℕ) where
   unfolding readable
   readable-empty e = ap (λ (n : ℕ). readable image n) (sym e)
 
-  pub readable-chain : used % entrySize ≡ 0 → used ≤ entrySize * entryLimit → 1 ≤ used
-      → chainHolds (get 8 image (used - entrySize)) image (used / entrySize) (used - 16) ≡ readable image used
+  -- the answer of a chain test that knows only the newest entry's N
+  pub readable-chain : used % entrySize ≡ 0 → used ≤ entrySize * entryLimit → 1 ≤ used → (answer : Bool)
+      → ((latest : Saved) → latest .native ≡ savedAt image (used - entrySize) .native → answer ≡ chainHolds latest image (entries used) (used - trailerSize))
+      → answer ≡ readable image used
   unfolding readable
-  readable-chain e h some =
-      let n = used / entrySize in
-      let whole : used ≡ 560 * n = omega arith in
-      let last : previousPlace (suc n) ≡ used - 16 = rw (ne-eqb (suc n) 1 (λ x. omega arith)) (omega arith) in
-      ap (λ (v : ℕ). chainHolds v image n (used - 16)) (sym (newest-native image used e (omega arith)))
-      ∙ ap (chainHolds (newest image used .native) image n) (sym last)
-      ∙ chain-every (newest image used .native) image n (omega arith)
+  readable-chain e h some answer holds =
+      let n = entries used in
+      let whole : used ≡ entrySize * n = omega arith in
+      let last : previousPlace (suc n) ≡ used - trailerSize = rw (ne-eqb (suc n) 1 (λ x. omega arith)) (omega arith) in
+      holds (newest image used) (ap (λ (s : Saved). s .native) (newest-at image used e (omega arith)))
+      ∙ ap (chainHolds (newest image used) image n) (sym last)
+      ∙ chain-every (newest image used) image n (omega arith)
       ∙ sym (rw (eq-eqb (used % entrySize) 0 e, le-leb used (entrySize * entryLimit) h))

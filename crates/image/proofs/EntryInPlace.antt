@@ -5,7 +5,7 @@ use Prim.Native.Nat.{ℕ, zero, suc, _+_, _-_, _*_, _≤_, _<_}
 use native.Mathlib.Omega.{arith}
 use native.Mathlib.Nat.{add-zero}
 use native.Mathlib.Decide.{decLt}
-use mathlib.Core.List.{List, [], _++_}
+use mathlib.Core.List.{List, _++_}
 use lib.ListN.{length, getD, take, drop, length-take, List·getD-eq-default}
 use lib.Seq.{take-add, drop-drop}
 use lib.Dec.{eqb, leb}
@@ -13,7 +13,7 @@ use borrow.Author.Tests.{eqb-true, eq-eqb, leb-true, le-leb}
 use Rattle.wire.specs.Choice.{bit}
 use Rattle.wire.specs.Numbers.{get}
 use Rattle.wire.specs.Parts.{part}
-use Rattle.wire.specs.Layout.{Field, form, Reads, outside}
+use Rattle.wire.specs.Layout.{form, Reads, outside}
 use Rattle.wire.specs.Bytes.{Bytes, same, allZero}
 use Rattle.wire.proofs.ChoiceLaws.{and-left, and-right, and-both, and-three, bit-small, below, below-all, tests-same}
 use Rattle.wire.proofs.PartsLaws.{length-part, getD-part, get-part, part-part, part-append-right}
@@ -21,14 +21,14 @@ use Rattle.wire.proofs.LayoutLaws.{length-form}
 use Rattle.wire.proofs.FormUnique.{form-unique}
 use Rattle.wire.proofs.BytesLaws.{bytes-part, all-zero-true, zero-all-true, same-refl, same-true}
 use Rattle.model.specs.Sizes.{sectorSize, historySize, bodySize, trailerSize, entrySize, entryLimit}
-use Rattle.model.specs.Temperature.{tableHeadSize, tableBytes}
-use Rattle.model.specs.Image.{Saved, headFields, headSize, bodyBytes, hasBit, savedIn, inRange, bodyHolds, tag, trailerPlace, previousPlace, trailerFields, trailerBytes, bodyAt, entryHolds}
+use Rattle.model.specs.Temperature.{tableIntervalPlace, tableIndexPlace, tableHeadSize, tableBytes}
+use Rattle.model.specs.Image.{Saved, nativePlace, visiblePlace, flagPlace, lifePlace, cachePlace, reorderingPlace, intervalPlace, marksPlace, zerosPlace, headSize, headFields, bodyBytes, hasBit, savedAt, inRange, bodyHolds, tag, trailerPlace, previousPlace, linkPlace, numberPlace, tagPlace, trailerFields, trailerBytes, alike, entryHolds}
 use Rattle.model.proofs.FormatLaws.{table-at}
-use Rattle.model.proofs.EntryLaws.{SavedFits, read-fits}
+use Rattle.model.proofs.EntryLaws.{SavedFits, saved-at, read-fits}
 use Rattle.model.proofs.EntryFormat.{BodyAt, body-at, get-trailer, trailer-fields}
 use Rattle.store.specs.InPlace.{tableFixed}
 use Rattle.store.proofs.TableInPlace.{implied, table-is, table-fixed}
-use Rattle.image.specs.InPlace.{savedAt, bodyInPlace, trailerInPlace}
+use Rattle.image.specs.InPlace.{bodyInPlace, trailerInPlace}
 
 -- ---- a body's head
 
@@ -50,60 +50,37 @@ options-exact (suc (suc (suc (suc (suc (suc zero)))))) h = refl
 options-exact (suc (suc (suc (suc (suc (suc (suc zero))))))) h = refl
 options-exact (suc (suc (suc (suc (suc (suc (suc (suc n)))))))) h = absurd (omega arith)
 
--- in the head the bytes 25 to 31 are in no field
-abbrev headPlaces : List Field
-headPlaces = headFields (savedIn [])
+abbrev zerosSize : ℕ
+zerosSize = headSize - zerosPlace
 
-head-gap : below headSize (λ i. not (outside headPlaces i) || leb 25 i) ≡ true
-unfolding savedIn
-head-gap = refl
+-- in the head the zeros are what is in no field
+head-gap : (s : Saved) → below headSize (λ i. not (outside (headFields s) i) || leb zerosPlace i) ≡ true
+head-gap s = refl
 
 module _ (image : List ℕ) (at : ℕ) (b : Bytes image) (fits : at + bodySize ≤ length image) where
-  abbrev body : List ℕ
-  body = part image at bodySize
-
   abbrev head : List ℕ
   head = part image at headSize
-
-  -- what the body says, read in place
-  pub saved-at : savedIn body ≡ savedAt image at
-  unfolding savedIn savedAt
-  saved-at =
-      let number : (k i : ℕ) → i + k ≤ bodySize → get k body i ≡ get k image (at + i) = λ k i h. get-part k image at bodySize i h in
-      let native = number 8 0 (omega arith) ∙ ap (get 8 image) (add-zero at) in
-      λ j.
-      record {
-        native = native j;
-        visible = number 8 8 (omega arith) j;
-        initialized = eqb (number 1 16 (omega arith) j) 1;
-        lifeMaximum = number 1 17 (omega arith) j;
-        writeCache = record { state = number 2 18 (omega arith) j; persistent = hasBit 1 (number 1 24 (omega arith) j) };
-        reordering = record { state = number 2 20 (omega arith) j; persistent = hasBit 2 (number 1 24 (omega arith) j) };
-        logInterval = record { state = number 2 22 (omega arith) j; persistent = hasBit 4 (number 1 24 (omega arith) j) };
-        history = part-part image at bodySize (headSize + tableHeadSize) historySize (omega arith) j;
-        index = number 2 (headSize + 32) (omega arith) j;
-      }
 
   front : (k i : ℕ) → i + k ≤ headSize → get k head i ≡ get k image (at + i)
   front k i h = get-part k image at headSize i h
 
-  head-read : leb (get 1 image (at + 16)) 1 ≡ true → leb (get 1 image (at + 24)) 7 ≡ true → Reads (headFields (savedAt image at)) head
+  head-read : leb (get 1 image (at + flagPlace)) 1 ≡ true → leb (get 1 image (at + marksPlace)) 7 ≡ true → Reads (headFields (savedAt image at)) head
   unfolding savedAt
-  head-read flag options = (
-    front 8 0 (omega arith) ∙ ap (get 8 image) (add-zero at),
+  head-read flag marks = (
+    front 8 nativePlace (omega arith),
     (
-      front 8 8 (omega arith),
+      front 8 visiblePlace (omega arith),
       (
-        front 1 16 (omega arith) ∙ flag-exact (get 1 image (at + 16)) (leb-true (get 1 image (at + 16)) 1 flag),
+        front 1 flagPlace (omega arith) ∙ flag-exact (get 1 image (at + flagPlace)) (leb-true (get 1 image (at + flagPlace)) 1 flag),
         (
-          front 1 17 (omega arith),
+          front 1 lifePlace (omega arith),
           (
-            front 2 18 (omega arith),
+            front 2 cachePlace (omega arith),
             (
-              front 2 20 (omega arith),
+              front 2 reorderingPlace (omega arith),
               (
-                front 2 22 (omega arith),
-                (front 1 24 (omega arith) ∙ options-exact (get 1 image (at + 24)) (leb-true (get 1 image (at + 24)) 7 options), tt),
+                front 2 intervalPlace (omega arith),
+                (front 1 marksPlace (omega arith) ∙ options-exact (get 1 image (at + marksPlace)) (leb-true (get 1 image (at + marksPlace)) 7 marks), tt),
               ),
             ),
           ),
@@ -112,53 +89,53 @@ module _ (image : List ℕ) (at : ℕ) (b : Bytes image) (fits : at + bodySize �
     ),
   )
 
-  head-rest : allZero (part image (at + 25) 7) ≡ true → (i : ℕ) → outside (headFields (savedAt image at)) i ≡ true → getD head i 0 ≡ 0
-  unfolding savedIn savedAt
+  head-rest : allZero (part image (at + zerosPlace) zerosSize) ≡ true → (i : ℕ) → outside (headFields (savedAt image at)) i ≡ true → getD head i 0 ≡ 0
   head-rest zeroes i out = go (decLt i headSize)
     where
       go : Dec (i < headSize) → getD head i 0 ≡ 0
       go (yes k) =
-          let low = leb-true 25 i (implied (outside headPlaces i) (leb 25 i) (below-all headSize (λ j. not (outside headPlaces j) || leb 25 j) head-gap i k) out) in
-          let place : at + 25 + (i - 25) ≡ at + i = omega arith in
+          let fs = headFields (savedAt image at) in
+          let low = leb-true zerosPlace i (implied (outside fs i) (leb zerosPlace i) (below-all headSize (λ j. not (outside fs j) || leb zerosPlace j) (head-gap (savedAt image at)) i k) out) in
+          let place : at + zerosPlace + (i - zerosPlace) ≡ at + i = omega arith in
           getD-part image at headSize i k
           ∙ ap (λ (j : ℕ). getD image j 0) (sym place)
-          ∙ sym (getD-part image (at + 25) 7 (i - 25) (omega arith))
-          ∙ all-zero-true (part image (at + 25) 7) zeroes (i - 25)
+          ∙ sym (getD-part image (at + zerosPlace) zerosSize (i - zerosPlace) (omega arith))
+          ∙ all-zero-true (part image (at + zerosPlace) zerosSize) zeroes (i - zerosPlace)
       go (no k) = List·getD-eq-default head 0 (rw (length-part image at headSize (omega arith)) (omega arith))
 
 -- ---- the tests of a body, one by one
 
 record BodyTests (image : List ℕ) (at : ℕ) : Type 0 where
-  flag : leb (get 1 image (at + 16)) 1 ≡ true
-  options : leb (get 1 image (at + 24)) 7 ≡ true
-  zeroes : allZero (part image (at + 25) 7) ≡ true
+  flag : leb (get 1 image (at + flagPlace)) 1 ≡ true
+  marks : leb (get 1 image (at + marksPlace)) 7 ≡ true
+  zeroes : allZero (part image (at + zerosPlace) zerosSize) ≡ true
   fixed : tableFixed image (at + headSize) ≡ true
-  interval : get 2 image (at + (headSize + 4)) ≡ get 2 image (at + 22)
+  interval : get 2 image (at + (headSize + tableIntervalPlace)) ≡ get 2 image (at + intervalPlace)
   ranged : inRange (savedAt image at) ≡ true
 
 tests-hold : (image : List ℕ) (at : ℕ) → bodyInPlace image at ≡ true → BodyTests image at
 unfolding bodyInPlace
 tests-hold image at h =
-    let a = leb (get 1 image (at + 16)) 1 in
-    let b = leb (get 1 image (at + 24)) 7 in
-    let c = allZero (part image (at + 25) 7) in
+    let a = leb (get 1 image (at + flagPlace)) 1 in
+    let b = leb (get 1 image (at + marksPlace)) 7 in
+    let c = allZero (part image (at + zerosPlace) zerosSize) in
     let d = tableFixed image (at + headSize) in
-    let e = eqb (get 2 image (at + (headSize + 4))) (get 2 image (at + 22)) in
+    let e = eqb (get 2 image (at + (headSize + tableIntervalPlace))) (get 2 image (at + intervalPlace)) in
     let w = and-three (a && b && c && d) e (inRange (savedAt image at)) h in
     let v = and-three (a && b) c d (w .0) in
     record {
       flag = and-left a b (v .0);
-      options = and-right a b (v .0);
+      marks = and-right a b (v .0);
       zeroes = v .1;
       fixed = v .2;
-      interval = eqb-true (get 2 image (at + (headSize + 4))) (get 2 image (at + 22)) (w .1);
+      interval = eqb-true (get 2 image (at + (headSize + tableIntervalPlace))) (get 2 image (at + intervalPlace)) (w .1);
       ranged = w .2;
     }
 
 hold-tests : (image : List ℕ) (at : ℕ) → BodyTests image at → bodyInPlace image at ≡ true
 unfolding bodyInPlace
 hold-tests image at t =
-    rw (t .flag, t .options, t .zeroes, t .fixed, eq-eqb (get 2 image (at + (headSize + 4))) (get 2 image (at + 22)) (t .interval), t .ranged)
+    rw (t .flag, t .marks, t .zeroes, t .fixed, eq-eqb (get 2 image (at + (headSize + tableIntervalPlace))) (get 2 image (at + intervalPlace)) (t .interval), t .ranged)
 
 module _ (image : List ℕ) (at : ℕ) (b : Bytes image) (fits : at + bodySize ≤ length image) where
   -- from the tests to the body
@@ -168,7 +145,7 @@ module _ (image : List ℕ) (at : ℕ) (b : Bytes image) (fits : at + bodySize �
       let s = savedAt image at in
       let front =
       form-unique headSize (headFields s) (part image at headSize) (bytes-part image at headSize b) (length-part image at headSize (omega arith)) refl
-      (head-read image at b fits (t .flag) (t .options)) (head-rest image at b fits (t .zeroes)) in
+      (head-read image at b fits (t .flag) (t .marks)) (head-rest image at b fits (t .zeroes)) in
       let table = table-is image (at + headSize) b (omega arith) (t .fixed) in
       sym
       (take-add headSize sectorSize (drop at image)
@@ -177,10 +154,10 @@ module _ (image : List ℕ) (at : ℕ) (b : Bytes image) (fits : at + bodySize �
       ∙ table
       ∙ (λ j. tableBytes ((ap (get 2 image) interval-place ∙ t .interval) j) (get 2 image (index-place j)) (part image (history-place j) historySize))))
     where
-      interval-place : at + headSize + 4 ≡ at + (headSize + 4)
+      interval-place : at + headSize + tableIntervalPlace ≡ at + (headSize + tableIntervalPlace)
       interval-place = omega arith
 
-      index-place : at + headSize + 32 ≡ at + (headSize + 32)
+      index-place : at + headSize + tableIndexPlace ≡ at + (headSize + tableIndexPlace)
       index-place = omega arith
 
       history-place : at + headSize + tableHeadSize ≡ at + (headSize + tableHeadSize)
@@ -190,47 +167,47 @@ module _ (image : List ℕ) (at : ℕ) (b : Bytes image) (fits : at + bodySize �
   passes : bodyBytes (savedAt image at) ≡ part image at bodySize → inRange (savedAt image at) ≡ true → BodyTests image at
   passes again ranged =
       let s = savedAt image at in
-      let fit : SavedFits s = subst SavedFits (saved-at image at b fits) (read-fits (part image at bodySize) (bytes-part image at bodySize b) (length-part image at bodySize fits)) in
+      let fit : SavedFits s = subst SavedFits (saved-at image at) (read-fits (part image at bodySize) (bytes-part image at bodySize b) (length-part image at bodySize fits)) in
       let says : BodyAt s (part image at bodySize) = subst (BodyAt s) again (body-at s fit) in
       let number : (k i : ℕ) → i + k ≤ bodySize → get k image (at + i) ≡ get k (part image at bodySize) i = λ k i h. sym (get-part k image at bodySize i h) in
       let table : part image (at + headSize) sectorSize ≡ tableBytes (s .logInterval .state) (s .index) (s .history) =
       sym (part-part image at bodySize headSize sectorSize (omega arith)) ∙ says .table in
-      let flag : get 1 image (at + 16) ≡ bit (s .initialized) = number 1 16 (omega arith) ∙ says .flag in
-      let options = number 1 24 (omega arith) ∙ says .options in
+      let flag : get 1 image (at + flagPlace) ≡ bit (s .initialized) = number 1 flagPlace (omega arith) ∙ says .flag in
+      let marks = number 1 marksPlace (omega arith) ∙ says .options in
       record {
-        flag = le-leb (get 1 image (at + 16)) 1 (omega (arith, flag, bit-small (s .initialized)));
-        options =
-            le-leb (get 1 image (at + 24)) 7
-            (omega (arith, options, bit-small (s .writeCache .persistent), bit-small (s .reordering .persistent), bit-small (s .logInterval .persistent)));
+        flag = le-leb (get 1 image (at + flagPlace)) 1 (omega (arith, flag, bit-small (s .initialized)));
+        marks =
+            le-leb (get 1 image (at + marksPlace)) 7
+            (omega (arith, marks, bit-small (s .writeCache .persistent), bit-small (s .reordering .persistent), bit-small (s .logInterval .persistent)));
         zeroes =
-            zero-all-true (part image (at + 25) 7)
+            zero-all-true (part image (at + zerosPlace) zerosSize)
             (λ i h.
-            let low : i < 7 = omega (arith, rw length-take at h) in
-            getD-part image (at + 25) 7 i low
+            let low : i < zerosSize = omega (arith, rw length-take at h) in
+            getD-part image (at + zerosPlace) zerosSize i low
             ∙ ap (λ (j : ℕ). getD image j 0) (shift i)
-            ∙ sym (getD-part image at bodySize (25 + i) (omega arith))
-            ∙ says .zero (25 + i) (omega arith) (omega arith));
+            ∙ sym (getD-part image at bodySize (zerosPlace + i) (omega arith))
+            ∙ says .zero (zerosPlace + i) (omega arith) (omega arith));
         fixed = table-fixed image (at + headSize) (omega arith) (s .logInterval .state) (s .index) (s .history) (fit .logInterval) (fit .index) (fit .whole) table;
         interval =
             ap (get 2 image) interval-place
-            ∙ sym (get-part 2 image (at + headSize) sectorSize 4 (omega arith))
-            ∙ ap (λ (l : List ℕ). get 2 l 4) table
+            ∙ sym (get-part 2 image (at + headSize) sectorSize tableIntervalPlace (omega arith))
+            ∙ ap (λ (l : List ℕ). get 2 l tableIntervalPlace) table
             ∙ table-at (s .logInterval .state) (s .index) (s .history) (fit .logInterval) (fit .index) (fit .whole) .intervalAt
-            ∙ sym (number 2 22 (omega arith) ∙ says .logInterval);
+            ∙ sym (number 2 intervalPlace (omega arith) ∙ says .logInterval);
         ranged = ranged;
       }
     where
-      shift : (i : ℕ) → at + 25 + i ≡ at + (25 + i)
+      shift : (i : ℕ) → at + zerosPlace + i ≡ at + (zerosPlace + i)
       shift i = omega arith
 
-      interval-place : at + (headSize + 4) ≡ at + headSize + 4
+      interval-place : at + (headSize + tableIntervalPlace) ≡ at + headSize + tableIntervalPlace
       interval-place = omega arith
 
   -- THEOREM: a body holds where it passes the tests in place.
   pub body-in-place : bodyHolds (part image at bodySize) ≡ bodyInPlace image at
   unfolding bodyHolds
   body-in-place =
-      ap (λ (s : Saved). same (bodyBytes s) (part image at bodySize) && inRange s) (saved-at image at b fits)
+      ap (λ (s : Saved). same (bodyBytes s) (part image at bodySize) && inRange s) (saved-at image at)
       ∙ tests-same (same (bodyBytes (savedAt image at)) (part image at bodySize) && inRange (savedAt image at)) (bodyInPlace image at) there back
     where
       there : (same (bodyBytes (savedAt image at)) (part image at bodySize) && inRange (savedAt image at)) ≡ true → bodyInPlace image at ≡ true
@@ -256,67 +233,67 @@ module _ (image : List ℕ) (at k : ℕ) (b : Bytes image) (fits : at + trailerS
 
   record TrailerTests : Type 0 where
     size : get 4 image at ≡ bodySize
-    before : get 4 image (at + 4) ≡ previousPlace k
-    named : get 4 image (at + 8) ≡ k
-    letters : part image (at + 12) 4 ≡ tag
+    before : get 4 image (at + linkPlace) ≡ previousPlace k
+    named : get 4 image (at + numberPlace) ≡ k
+    letters : part image (at + tagPlace) 4 ≡ tag
 
   trailer-tests : trailerInPlace image at k ≡ true → TrailerTests
   unfolding trailerInPlace
   trailer-tests e =
       let size = eqb (get 4 image at) bodySize in
-      let before = eqb (get 4 image (at + 4)) (previousPlace k) in
-      let w = and-three (size && before) (eqb (get 4 image (at + 8)) k) (same (part image (at + 12) 4) tag) e in
+      let before = eqb (get 4 image (at + linkPlace)) (previousPlace k) in
+      let w = and-three (size && before) (eqb (get 4 image (at + numberPlace)) k) (same (part image (at + tagPlace) 4) tag) e in
       record {
         size = eqb-true (get 4 image at) bodySize (and-left size before (w .0));
-        before = eqb-true (get 4 image (at + 4)) (previousPlace k) (and-right size before (w .0));
-        named = eqb-true (get 4 image (at + 8)) k (w .1);
-        letters = same-true (part image (at + 12) 4) tag (w .2);
+        before = eqb-true (get 4 image (at + linkPlace)) (previousPlace k) (and-right size before (w .0));
+        named = eqb-true (get 4 image (at + numberPlace)) k (w .1);
+        letters = same-true (part image (at + tagPlace) 4) tag (w .2);
       }
 
   tests-trailer : TrailerTests → trailerInPlace image at k ≡ true
   unfolding trailerInPlace
   tests-trailer t =
-      rw (eq-eqb (get 4 image at) bodySize (t .size), eq-eqb (get 4 image (at + 4)) (previousPlace k) (t .before), eq-eqb (get 4 image (at + 8)) k (t .named), t .letters)
+      rw (eq-eqb (get 4 image at) bodySize (t .size), eq-eqb (get 4 image (at + linkPlace)) (previousPlace k) (t .before), eq-eqb (get 4 image (at + numberPlace)) k (t .named), t .letters)
       (same-refl tag)
 
-  -- every one of the first 12 bytes is in a field
-  none-outside : below 12 (λ i. not (outside (trailerFields k) i) || false) ≡ true
+  -- every byte in front of the letters is in a field
+  none-outside : below tagPlace (λ i. not (outside (trailerFields k) i) || false) ≡ true
   none-outside = refl
 
-  trailer-rest : (i : ℕ) → outside (trailerFields k) i ≡ true → getD (part image at 12) i 0 ≡ 0
-  trailer-rest i out = go (decLt i 12)
+  trailer-rest : (i : ℕ) → outside (trailerFields k) i ≡ true → getD (part image at tagPlace) i 0 ≡ 0
+  trailer-rest i out = go (decLt i tagPlace)
     where
-      go : Dec (i < 12) → getD (part image at 12) i 0 ≡ 0
+      go : Dec (i < tagPlace) → getD (part image at tagPlace) i 0 ≡ 0
       go (yes h) =
-          let f : false ≡ true = implied (outside (trailerFields k) i) false (below-all 12 (λ j. not (outside (trailerFields k) j) || false) none-outside i h) out in
+          let f : false ≡ true = implied (outside (trailerFields k) i) false (below-all tagPlace (λ j. not (outside (trailerFields k) j) || false) none-outside i h) out in
           absurd (let z : _≡_ {A = ℕ} 0 1 = cc in omega arith)
-      go (no h) = List·getD-eq-default (part image at 12) 0 (rw (length-part image at 12 (omega arith)) (omega arith))
+      go (no h) = List·getD-eq-default (part image at tagPlace) 0 (rw (length-part image at tagPlace (omega arith)) (omega arith))
 
   trailer-is : TrailerTests → here ≡ trailerBytes k
   unfolding trailerBytes
   trailer-is t =
       let front =
-      form-unique 12 (trailerFields k) (part image at 12) (bytes-part image at 12 b) (length-part image at 12 (omega arith)) refl (
-        get-part 4 image at 12 0 (omega arith) ∙ ap (get 4 image) (add-zero at) ∙ t .size,
-        (get-part 4 image at 12 4 (omega arith) ∙ t .before, (get-part 4 image at 12 8 (omega arith) ∙ t .named, tt)),
+      form-unique tagPlace (trailerFields k) (part image at tagPlace) (bytes-part image at tagPlace b) (length-part image at tagPlace (omega arith)) refl (
+        get-part 4 image at tagPlace 0 (omega arith) ∙ ap (get 4 image) (add-zero at) ∙ t .size,
+        (get-part 4 image at tagPlace linkPlace (omega arith) ∙ t .before, (get-part 4 image at tagPlace numberPlace (omega arith) ∙ t .named, tt)),
       )
       trailer-rest in
-      take-add 12 4 (drop at image) ∙ ap₂ (λ (x y : List ℕ). x ++ y) front (ap (take 4) (drop-drop 12 at image) ∙ t .letters)
+      take-add tagPlace 4 (drop at image) ∙ ap₂ (λ (x y : List ℕ). x ++ y) front (ap (take 4) (drop-drop tagPlace at image) ∙ t .letters)
 
   is-trailer : here ≡ trailerBytes k → TrailerTests
   unfolding trailerBytes
   is-trailer e =
       let r = trailer-fields k high in
-      let number : (i : ℕ) → i + 4 ≤ 12 → get 4 image (at + i) ≡ get 4 (form 12 (trailerFields k)) i =
+      let number : (i : ℕ) → i + 4 ≤ tagPlace → get 4 image (at + i) ≡ get 4 (form tagPlace (trailerFields k)) i =
       λ i h. sym (get-part 4 image at trailerSize i (omega arith)) ∙ ap (λ (l : List ℕ). get 4 l i) e ∙ get-trailer k i h in
       record {
         size = ap (get 4 image) (sym (add-zero at)) ∙ number 0 (omega arith) ∙ r .0;
-        before = number 4 (omega arith) ∙ r .1 .0;
-        named = number 8 (omega arith) ∙ r .1 .1 .0;
+        before = number linkPlace (omega arith) ∙ r .1 .0;
+        named = number numberPlace (omega arith) ∙ r .1 .1 .0;
         letters =
-            sym (part-part image at trailerSize 12 4 (omega arith))
-            ∙ ap (λ (l : List ℕ). part l 12 4) e
-            ∙ part-append-right (form 12 (trailerFields k)) tag 12 4 (length-form 12 (trailerFields k)) refl;
+            sym (part-part image at trailerSize tagPlace 4 (omega arith))
+            ∙ ap (λ (l : List ℕ). part l tagPlace 4) e
+            ∙ part-append-right (form tagPlace (trailerFields k)) tag tagPlace 4 (length-form tagPlace (trailerFields k)) refl;
       }
 
   -- THEOREM: a trailer is the one of entry k where it passes the tests in place.
@@ -328,21 +305,14 @@ module _ (image : List ℕ) (at k : ℕ) (b : Bytes image) (fits : at + trailerS
 
 -- ---- an entry
 
-saved-native : (image : List ℕ) (at : ℕ) → savedAt image at .native ≡ get 8 image at
-unfolding savedAt
-saved-native image at = refl
-
--- THEOREM: entry k holds where its body and its trailer pass the tests in place and its N is the disk's.
-pub entry-in-place : (native : ℕ) (image : List ℕ) (at k : ℕ) → Bytes image → 1 ≤ k → k ≤ entryLimit → at ≡ trailerPlace k → entrySize * k ≤ length image
-    → (bodyInPlace image (at - bodySize) && eqb (get 8 image (at - bodySize)) native && trailerInPlace image at k) ≡ entryHolds native image k
+-- THEOREM: entry k holds where its body and its trailer pass the tests in place and it is alike the newest.
+pub entry-in-place : (latest : Saved) (image : List ℕ) (at k : ℕ) → Bytes image → 1 ≤ k → k ≤ entryLimit → at ≡ trailerPlace k → entrySize * k ≤ length image
+    → (bodyInPlace image (at - bodySize) && alike latest (savedAt image (at - bodySize)) && trailerInPlace image at k) ≡ entryHolds latest image k
 unfolding entryHolds
-entry-in-place native image at k b low high e long =
-    ap (λ (p : ℕ). bodyInPlace image (p - bodySize) && eqb (get 8 image (p - bodySize)) native && trailerInPlace image p k) e
+entry-in-place latest image at k b low high e long =
+    ap (λ (p : ℕ). bodyInPlace image (p - bodySize) && alike latest (savedAt image (p - bodySize)) && trailerInPlace image p k) e
     ∙ rw (
       ← body-in-place image (trailerPlace k - bodySize) b (omega arith),
       ← trailer-in-place image (trailerPlace k) k b (omega arith) high,
-      ← named,
+      ← saved-at image (trailerPlace k - bodySize),
     )
-  where
-    named : savedIn (bodyAt image k) .native ≡ get 8 image (trailerPlace k - bodySize)
-    named = ap (λ (s : Saved). s .native) (saved-at image (trailerPlace k - bodySize) b (omega arith)) ∙ saved-native image (trailerPlace k - bodySize)

@@ -8,11 +8,10 @@ use lib.ListN.{length}
 use lib.Dec.{eqb, leb, ltb}
 use borrow.Author.Tests.{leb-true, le-leb, lt-leb, eq-eqb, ne-eqb}
 use Rattle.wire.specs.Choice.{if_then_else_, firstFailed}
-use Rattle.wire.specs.Numbers.{get}
 use Rattle.wire.proofs.ChoiceLaws.{tests-same}
 use Rattle.model.specs.Sizes.{entrySize, entryLimit}
-use Rattle.model.specs.Image.{readable, sameDisk, imageChecks, hasRoom, saveChecks}
-use Rattle.model.proofs.ImageLaws.{readable-parts, newest-native}
+use Rattle.model.specs.Image.{savedAt, readable, sameDisk, imageChecks, hasRoom, saveChecks}
+use Rattle.model.proofs.ImageLaws.{readable-parts, newest-at}
 
 -- ---- the newest entry's disk
 
@@ -24,9 +23,9 @@ pub entry-before : (image : List ℕ) (used : ℕ) → readable image used ≡ t
 entry-before image used r some = let m = readable-parts image used r .multiple in omega arith
 
 pub disk-newest : (native : ℕ) (image : List ℕ) (used : ℕ) → readable image used ≡ true → (used ≡ 0 → ⊥)
-    → eqb (get 8 image (used - entrySize)) native ≡ sameDisk native image used
+    → eqb (savedAt image (used - entrySize) .native) native ≡ sameDisk native image used
 disk-newest native image used r some =
-    sym (rw (ne-eqb used 0 some, newest-native image used (readable-parts image used r .multiple) (entry-before image used r some)))
+    sym (rw (ne-eqb used 0 some, newest-at image used (readable-parts image used r .multiple) (entry-before image used r some)))
 
 -- ---- room for one more
 

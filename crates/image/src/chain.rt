@@ -1,23 +1,25 @@
 // The chain of entries, from the last trailer back.
 use crate::entry::entry_holds;
+use crate::entry::native_at;
 use sizes::ENTRY;
 use sizes::IMAGE_LIMIT;
 use sizes::TRAILER;
+use sizes::entry;
 ghost use mathlib.Core.Path.{_≡_};
 ghost use Prim.Native.Nat.{_+_, _*_, _≤_};
 ghost use lib.ListN.{length};
 ghost use Rattle.model.specs.Sizes.{entrySize, entryLimit};
-ghost use Rattle.model.specs.Image.{chainHolds, readable};
+ghost use Rattle.model.specs.Image.{Saved, chainHolds, readable};
 
 // "Reading starts at the last trailer and follows the chain back": the entries from `number` down to the first, the last trailer at `at`.
-// The image is passed by the address of the slice, so that the call at the end takes no stack.
+// `native` is what `alike` asks of the newest entry. The image is passed by the address of the slice, so that the call at the end takes no stack.
 fn chain_holds(native: u64, image: &&[u8], at: usize, number: u32) -> bool
     requires { ⌜ number ≤ entryLimit ⌝ }
     requires long { ⌜ entrySize * number ≤ length (now (now image)) ⌝ }
-    ensures { λ r. ⌜ r ≡ chainHolds native (now (now (image .entry))) number at ⌝ }
+    ensures { λ r. ⌜ ((latest : Saved) → latest .native ≡ native → r ≡ chainHolds latest (now (now (image .entry))) number at) ⌝ }
 {
     if number == 0 {
-        return at == 0xFFFFFFFF;
+        return at == entry::NO_TRAILER_AT;
     }
     if at != ENTRY * (number as usize) - TRAILER {
         return false;
@@ -25,7 +27,7 @@ fn chain_holds(native: u64, image: &&[u8], at: usize, number: u32) -> bool
     if !entry_holds(native, *image, at, number) {
         return false;
     }
-    let before = wire::u32_at(*image, at + 4);
+    let before = wire::u32_at(*image, at + entry::LINK_AT);
     chain_holds(native, image, before as usize, number - 1)
 }
 
@@ -43,6 +45,6 @@ pub fn readable(image: &[u8], used: usize) -> bool
     if used == 0 {
         return true;
     }
-    let native = wire::u64_at(image, used - ENTRY);
+    let native = native_at(image, used - ENTRY);
     chain_holds(native, &image, used - TRAILER, (used / ENTRY) as u32)
 }

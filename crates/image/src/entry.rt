@@ -1,35 +1,48 @@
 // One entry of the saved image, tested in place: its body, its trailer.
 use sizes::BODY;
+use sizes::BODY_U32;
+use sizes::ENTRY_U32;
+use sizes::HISTORY_U16;
 use sizes::NATIVE_LIMIT;
+use sizes::TRAILER_U32;
+use sizes::entry;
 ghost use mathlib.Core.Path.{_≡_};
 ghost use Prim.Native.Nat.{_+_, _*_, _≤_};
 ghost use lib.ListN.{length};
 ghost use Rattle.wire.specs.Parts.{part};
 ghost use Rattle.wire.specs.Bytes.{same};
 ghost use Rattle.model.specs.Sizes.{bodySize, trailerSize, entrySize, entryLimit};
-ghost use Rattle.model.specs.Image.{inRange, tag, previousPlace, trailerPlace, entryHolds};
-ghost use Rattle.image.specs.InPlace.{savedAt, bodyInPlace, trailerInPlace};
+ghost use Rattle.model.specs.Image.{Saved, savedAt, inRange, alike, tag, previousPlace, trailerPlace, entryHolds};
+ghost use Rattle.image.specs.InPlace.{bodyInPlace, trailerInPlace};
 
 // "then the letters SCTE"
 pub const TAG: [u8; 4] = *b"SCTE";
+
+// N of the body at `at`.
+pub fn native_at(image: &[u8], at: usize) -> u64
+    requires { ⌜ at + bodySize ≤ length (now image) ⌝ }
+    ensures { λ r. ⌜ r ≡ savedAt (now (image .entry)) at .native ⌝ }
+{
+    wire::u64_at(image, at + entry::NATIVE_AT)
+}
 
 // "values in range": N and V, the states of the features, the index.
 fn values_in_range(image: &[u8], at: usize) -> bool
     requires { ⌜ at + bodySize ≤ length (now image) ⌝ }
     ensures { λ r. ⌜ r ≡ inRange (savedAt (now (image .entry)) at) ⌝ }
 {
-    let native = wire::u64_at(image, at);
-    let visible = wire::u64_at(image, at + 8);
-    let cache = wire::u16_at(image, at + 18);
-    let reordering = wire::u16_at(image, at + 20);
-    let interval = wire::u16_at(image, at + 22);
-    let index = wire::u16_at(image, at + 64);
+    let native = native_at(image, at);
+    let visible = wire::u64_at(image, at + entry::VISIBLE_AT);
+    let cache = wire::u16_at(image, at + entry::CACHE_AT);
+    let reordering = wire::u16_at(image, at + entry::REORDERING_AT);
+    let interval = wire::u16_at(image, at + entry::INTERVAL_AT);
+    let index = wire::u16_at(image, at + entry::INDEX_AT);
     ((1 <= native) & (native <= NATIVE_LIMIT))
         & ((1 <= visible) & (visible <= native))
         & ((1 <= cache) & (cache <= 3))
         & ((1 <= reordering) & (reordering <= 2))
         & ((1 <= interval) & (interval <= 65535))
-        & (index < 478)
+        & (index < HISTORY_U16)
 }
 
 // Whether the body at `at` holds.
@@ -37,14 +50,22 @@ fn body_holds(image: &[u8], at: usize) -> bool
     requires { ⌜ at + bodySize ≤ length (now image) ⌝ }
     ensures { λ r. ⌜ r ≡ bodyInPlace (now (image .entry)) at ⌝ }
 {
-    let flag = wire::u8_at(image, at + 16);
-    let options = wire::u8_at(image, at + 24);
-    let zero = wire::is_zero(image, at + 25, 7);
-    let fixed = soundness::table_fixed(image, at + 32);
-    let logged = wire::u16_at(image, at + 36);
-    let state = wire::u16_at(image, at + 22);
+    let flag = wire::u8_at(image, at + entry::FLAG_AT);
+    let marks = wire::u8_at(image, at + entry::MARKS_AT);
+    let zero = runs::is_zero(image, at + entry::ZEROS_AT, entry::ZEROS);
+    let fixed = soundness::table_fixed(image, at + entry::TABLE_AT);
+    let logged = wire::u16_at(image, at + entry::LOGGED_AT);
+    let state = wire::u16_at(image, at + entry::INTERVAL_AT);
     let ranged = values_in_range(image, at);
-    (flag <= 1) & (options <= 7) & zero & fixed & (logged == state) & ranged
+    (flag <= 1) & (marks <= 7) & zero & fixed & (logged == state) & ranged
+}
+
+// "all entries have the same N": whether the body at `at` is alike that of the newest entry, whose N is `native`.
+fn alike(native: u64, image: &[u8], at: usize) -> bool
+    requires { ⌜ at + bodySize ≤ length (now image) ⌝ }
+    ensures { λ r. ⌜ ((latest : Saved) → latest .native ≡ native → r ≡ alike latest (savedAt (now (image .entry)) at)) ⌝ }
+{
+    native_at(image, at) == native
 }
 
 // "the place of the previous trailer (FFFFFFFFh for the first)"
@@ -53,9 +74,9 @@ pub fn previous_place(number: u32) -> u32
     ensures { λ r. ⌜ r ≡ previousPlace number ⌝ }
 {
     if number == 1 {
-        0xFFFFFFFF
+        entry::NO_TRAILER
     } else {
-        560 * (number - 1) - 16
+        ENTRY_U32 * (number - 1) - TRAILER_U32
     }
 }
 
@@ -65,7 +86,7 @@ fn tag_holds(image: &[u8], at: usize) -> bool
     ensures { λ r. ⌜ r ≡ same (part (now (image .entry)) at 4) tag ⌝ }
 {
     let letters = TAG;
-    wire::same_part(image, at, &letters, 0, 4)
+    runs::same_part(image, at, &letters, 0, 4)
 }
 
 // Whether trailer `number` stands at `at`.
@@ -74,20 +95,20 @@ fn trailer_holds(image: &[u8], at: usize, number: u32) -> bool
     ensures { λ r. ⌜ r ≡ trailerInPlace (now (image .entry)) at number ⌝ }
 {
     let size = wire::u32_at(image, at);
-    let before = wire::u32_at(image, at + 4);
-    let named = wire::u32_at(image, at + 8);
-    let letters = tag_holds(image, at + 12);
-    (size == 544) & (before == previous_place(number)) & (named == number) & letters
+    let before = wire::u32_at(image, at + entry::LINK_AT);
+    let named = wire::u32_at(image, at + entry::NUMBER_AT);
+    let letters = tag_holds(image, at + entry::TAG_AT);
+    (size == BODY_U32) & (before == previous_place(number)) & (named == number) & letters
 }
 
-// Whether entry `number` holds, with the N of the newest entry ("all entries have the same N"); its trailer stands at `at`.
+// Whether entry `number` holds beside the newest, whose N is `native`; its trailer stands at `at`.
 pub fn entry_holds(native: u64, image: &[u8], at: usize, number: u32) -> bool
     requires { ⌜ (1 ≤ number) × (number ≤ entryLimit) × (at ≡ trailerPlace number) ⌝ }
     requires long { ⌜ entrySize * number ≤ length (now image) ⌝ }
-    ensures { λ r. ⌜ r ≡ entryHolds native (now (image .entry)) number ⌝ }
+    ensures { λ r. ⌜ ((latest : Saved) → latest .native ≡ native → r ≡ entryHolds latest (now (image .entry)) number) ⌝ }
 {
     let body = body_holds(image, at - BODY);
-    let named = wire::u64_at(image, at - BODY);
+    let same = alike(native, image, at - BODY);
     let trailer = trailer_holds(image, at, number);
-    body & (named == native) & trailer
+    body & same & trailer
 }

@@ -1,5 +1,6 @@
 // The answers to an image: whether it can be read for this disk, and whether it can take one more entry.
 use crate::chain::readable;
+use crate::entry::native_at;
 use sizes::ENTRIES;
 use sizes::ENTRY;
 ghost use mathlib.Core.Path.{_≡_};
@@ -17,8 +18,7 @@ fn same_disk(native: u64, image: &[u8], used: usize) -> bool
     if used == 0 {
         return true;
     }
-    let newest = wire::u64_at(image, used - ENTRY);
-    newest == native
+    native_at(image, used - ENTRY) == native
 }
 
 // 0, or the number of the refusal: 2 length, 6 image, 7 other disk.

@@ -1,23 +1,25 @@
 -- The bytes of an entry of the saved image: what stands at each place that document 01 names; and what a device saves.
 use mathlib.Core.Path.{_≡_, refl, _∙_}
-use mathlib.Core.Bool.{Bool, true, false}
+use mathlib.Core.Bool.{Bool, true, false, _||_}
 use Prim.Native.Nat.{ℕ, _+_, _-_, _*_, _^_, _≤_, _<_}
 use native.Mathlib.Omega.{arith}
 use mathlib.Core.List.{List, [], _∷_}
 use lib.ListN.{length, getD, List·getD-append}
-use lib.Dec.{eqb}
-use borrow.Author.Tests.{le-ltb, le-leb, eq-eqb, ne-eqb}
+use lib.Dec.{eqb, ltb}
+use borrow.Author.Tests.{le-ltb, eq-eqb, ne-eqb}
 use Rattle.wire.specs.Choice.{if_then_else_, bit}
 use Rattle.wire.specs.Numbers.{get}
 use Rattle.wire.specs.Parts.{part}
 use Rattle.wire.specs.Layout.{form, Reads, outside}
+use Rattle.wire.proofs.ChoiceLaws.{below, below-all}
 use Rattle.wire.proofs.NumbersLaws.{get-append-left}
 use Rattle.wire.proofs.PartsLaws.{part-append-right}
 use Rattle.wire.proofs.LayoutLaws.{length-form, reads-form, form-outside}
+use Rattle.model.specs.Sizes.{sectorSize, entryLimit}
 use Rattle.model.specs.Device.{Device}
 use Rattle.model.specs.Temperature.{tableBytes}
-use Rattle.model.specs.Image.{Saved, savedFrom, headFields, headSize, bodyBytes, tag, trailerPlace, trailerFields, trailerBytes}
-use Rattle.model.proofs.EntryLaws.{SavedFits, length-table, length-body, length-trailer, head-reads, get-head}
+use Rattle.model.specs.Image.{Saved, savedFrom, zerosPlace, headSize, headFields, bodyBytes, tag, trailerPlace, noTrailer, linkPlace, numberPlace, tagPlace, trailerFields, trailerBytes}
+use Rattle.model.proofs.EntryLaws.{SavedFits, length-table, length-body, length-trailer, head-reads}
 
 -- ---- what a device saves
 
@@ -62,26 +64,9 @@ pub record BodyAt (s : Saved) (b : List ℕ) : Type 0 where
   pub table : part b 32 512 ≡ tableBytes (s .logInterval .state) (s .index) (s .history)
   pub size : length b ≡ 544
 
-head-outside : (s : Saved) (i : ℕ) → 25 ≤ i → outside (headFields s) i ≡ true
-head-outside s i h =
-    rw (
-      le-ltb i 0 (omega arith),
-      le-leb 8 i (omega arith),
-      le-ltb i 8 (omega arith),
-      le-leb 16 i (omega arith),
-      le-ltb i 16 (omega arith),
-      le-leb 17 i (omega arith),
-      le-ltb i 17 (omega arith),
-      le-leb 18 i (omega arith),
-      le-ltb i 18 (omega arith),
-      le-leb 20 i (omega arith),
-      le-ltb i 20 (omega arith),
-      le-leb 22 i (omega arith),
-      le-ltb i 22 (omega arith),
-      le-leb 24 i (omega arith),
-      le-ltb i 24 (omega arith),
-      le-leb 25 i (omega arith),
-    )
+-- the bytes 25 to 31 are in no field
+head-gap : (s : Saved) → below headSize (λ i. ltb i zerosPlace || outside (headFields s) i) ≡ true
+head-gap s = refl
 
 pub body-at : (s : Saved) → SavedFits s → BodyAt s (bodyBytes s)
 unfolding bodyBytes
@@ -91,16 +76,19 @@ body-at s f =
     let rest = tableBytes (s .logInterval .state) (s .index) (s .history) in
     let size = length-form headSize (headFields s) in
     record {
-      native = get-head s 8 0 (omega arith) ∙ r .0;
-      visible = get-head s 8 8 (omega arith) ∙ r .1 .0;
-      flag = get-head s 1 16 (omega arith) ∙ r .1 .1 .0;
-      lifeMaximum = get-head s 1 17 (omega arith) ∙ r .1 .1 .1 .0;
-      writeCache = get-head s 2 18 (omega arith) ∙ r .1 .1 .1 .1 .0;
-      reordering = get-head s 2 20 (omega arith) ∙ r .1 .1 .1 .1 .1 .0;
-      logInterval = get-head s 2 22 (omega arith) ∙ r .1 .1 .1 .1 .1 .1 .0;
-      options = get-head s 1 24 (omega arith) ∙ r .1 .1 .1 .1 .1 .1 .1 .0 ∙ omega arith;
-      zero = λ i low high. List·getD-append head rest 0 i (rw size high) ∙ form-outside headSize (headFields s) i (head-outside s i low);
-      table = part-append-right head rest 32 512 size (length-table (s .logInterval .state) (s .index) (s .history) (f .whole));
+      native = r .0;
+      visible = r .1 .0;
+      flag = r .1 .1 .0;
+      lifeMaximum = r .1 .1 .1 .0;
+      writeCache = r .1 .1 .1 .1 .0;
+      reordering = r .1 .1 .1 .1 .1 .0;
+      logInterval = r .1 .1 .1 .1 .1 .1 .0;
+      options = r .1 .1 .1 .1 .1 .1 .1 .0 ∙ omega arith;
+      zero = λ i low high.
+          List·getD-append head rest 0 i (rw size high)
+          ∙ form-outside headSize (headFields s) i
+          (rw (le-ltb i zerosPlace low) at (below-all headSize (λ j. ltb j zerosPlace || outside (headFields s) j) (head-gap s) i high));
+      table = part-append-right head rest headSize sectorSize size (length-table (s .logInterval .state) (s .index) (s .history) (f .whole));
       size = length-body s (f .whole);
     }
 
@@ -117,14 +105,14 @@ pub record TrailerAt (k : ℕ) (t : List ℕ) : Type 0 where
   pub size : length t ≡ 16
 
 -- a number of the trailer, and the three of them
-pub get-trailer : (k at : ℕ) → at + 4 ≤ 12 → get 4 (trailerBytes k) at ≡ get 4 (form 12 (trailerFields k)) at
+pub get-trailer : (k at : ℕ) → at + 4 ≤ tagPlace → get 4 (trailerBytes k) at ≡ get 4 (form tagPlace (trailerFields k)) at
 unfolding trailerBytes
-get-trailer k at h = get-append-left 4 (form 12 (trailerFields k)) tag at (rw (length-form 12 (trailerFields k)) h)
+get-trailer k at h = get-append-left 4 (form tagPlace (trailerFields k)) tag at (rw (length-form tagPlace (trailerFields k)) h)
 
-pub trailer-fields : (k : ℕ) → k ≤ 117 → Reads (trailerFields k) (form 12 (trailerFields k))
-trailer-fields k h = reads-form 12 (trailerFields k) refl (omega arith, (below (eqb k 1), (omega arith, tt)))
+pub trailer-fields : (k : ℕ) → k ≤ entryLimit → Reads (trailerFields k) (form tagPlace (trailerFields k))
+trailer-fields k h = reads-form tagPlace (trailerFields k) refl (omega arith, (below (eqb k 1), (omega arith, tt)))
   where
-    below : (b : Bool) → (if b then 0xFFFFFFFF else trailerPlace (k - 1)) < 256 ^ 4
+    below : (b : Bool) → (if b then noTrailer else trailerPlace (k - 1)) < 256 ^ 4
     below true = omega arith
     below false = omega arith
 
@@ -134,9 +122,9 @@ trailer-at k low high =
     let r = trailer-fields k high in
     record {
       body = get-trailer k 0 (omega arith) ∙ r .0;
-      firstEntry = λ e. get-trailer k 4 (omega arith) ∙ r .1 .0 ∙ rw (eq-eqb k 1 e);
-      laterEntry = λ h. get-trailer k 4 (omega arith) ∙ r .1 .0 ∙ rw (ne-eqb k 1 (λ e. omega arith));
-      number = get-trailer k 8 (omega arith) ∙ r .1 .1 .0;
-      letters = part-append-right (form 12 (trailerFields k)) tag 12 4 (length-form 12 (trailerFields k)) refl;
+      firstEntry = λ e. get-trailer k linkPlace (omega arith) ∙ r .1 .0 ∙ rw (eq-eqb k 1 e);
+      laterEntry = λ h. get-trailer k linkPlace (omega arith) ∙ r .1 .0 ∙ rw (ne-eqb k 1 (λ e. omega arith));
+      number = get-trailer k numberPlace (omega arith) ∙ r .1 .1 .0;
+      letters = part-append-right (form tagPlace (trailerFields k)) tag tagPlace 4 (length-form tagPlace (trailerFields k)) refl;
       size = length-trailer k;
     }

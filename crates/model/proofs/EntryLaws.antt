@@ -6,22 +6,23 @@ use native.Mathlib.Omega.{arith}
 use mathlib.Core.List.{List, [], _++_, append-assoc}
 use lib.ListN.{length, drop, length-append}
 use lib.Dec.{eqb, ltb}
-use borrow.Author.Tests.{ltb-true, lt-ltb}
+use borrow.Author.Tests.{eqb-true, eq-eqb, ltb-true, lt-ltb}
 use Rattle.wire.specs.Choice.{bit, between}
 use Rattle.wire.specs.Numbers.{get}
 use Rattle.wire.specs.Parts.{part}
 use Rattle.wire.specs.Layout.{form, Reads}
 use Rattle.wire.specs.Bytes.{Bytes}
-use Rattle.wire.proofs.ChoiceLaws.{and-left, and-right, and-both, and-three, three-and, between-true, between-within, bit-small}
-use Rattle.wire.proofs.NumbersLaws.{get-append-left, get-append-right}
-use Rattle.wire.proofs.PartsLaws.{length-part, part-append-right}
-use Rattle.wire.proofs.LayoutLaws.{length-form, reads-form}
+use Rattle.wire.proofs.ChoiceLaws.{and-left, and-right, and-three, between-true, between-within, bit-small}
+use Rattle.wire.proofs.NumbersLaws.{get-append-right}
+use Rattle.wire.proofs.PartsLaws.{length-part, part-part, get-part, part-append-right}
+use Rattle.wire.proofs.LayoutLaws.{length-form, reads-form, reads-front}
 use Rattle.wire.proofs.BytesLaws.{bytes-nil, bytes-cons, bytes-append, bytes-form, bytes-part, get-fits, same-refl}
 use Rattle.model.specs.Sizes.{sectorSize, nativeLimit, historySize, bodySize, trailerSize}
 use Rattle.model.specs.Key.{highestState}
-use Rattle.model.specs.Temperature.{tableFields, tableHeadSize, tableBytes}
-use Rattle.model.specs.Image.{Saved, headFields, headSize, bodyBytes, hasBit, savedIn, inRange, bodyHolds, tag, trailerFields, trailerBytes}
+use Rattle.model.specs.Temperature.{tableIndexPlace, tableHeadSize, tableFields, tableBytes}
+use Rattle.model.specs.Image.{Saved, nativePlace, visiblePlace, flagPlace, lifePlace, cachePlace, reorderingPlace, intervalPlace, marksPlace, headSize, headFields, bodyBytes, hasBit, savedAt, savedIn, inRange, bodyHolds, tag, tagPlace, trailerFields, trailerBytes, alike}
 use Rattle.model.specs.Valid.{StateValid}
+use Rattle.model.proofs.FormatLaws.{table-reads, table-bytes}
 
 -- ---- sizes
 
@@ -37,7 +38,7 @@ length-body s e =
 
 pub length-trailer : (k : ℕ) → length (trailerBytes k) ≡ trailerSize
 unfolding trailerBytes
-length-trailer k = length-append (form 12 (trailerFields k)) tag ∙ rw (length-form 12 (trailerFields k))
+length-trailer k = length-append (form tagPlace (trailerFields k)) tag ∙ rw (length-form tagPlace (trailerFields k))
 
 -- ---- what is saved is read back
 
@@ -53,38 +54,28 @@ pub record SavedFits (s : Saved) : Type 0 where
   pub whole : length (s .history) ≡ historySize
   pub readings : Bytes (s .history)
 
-pub head-reads : (s : Saved) → SavedFits s → Reads (headFields s) (form headSize (headFields s))
+-- every field of the head is read from the body
+pub head-reads : (s : Saved) → SavedFits s → Reads (headFields s) (bodyBytes s)
+unfolding bodyBytes
 head-reads s f =
-    reads-form headSize (headFields s) refl
-    (f .native, (f .visible, (flag, (f .lifeMaximum, (f .writeCache, (f .reordering, (f .logInterval, (options, tt))))))))
+    let head = form headSize (headFields s) in
+    reads-front (headFields s) 0 headSize head (tableBytes (s .logInterval .state) (s .index) (s .history)) refl (rw (length-form headSize (headFields s)) (omega arith))
+    (reads-form headSize (headFields s) refl
+    (f .native, (f .visible, (flag, (f .lifeMaximum, (f .writeCache, (f .reordering, (f .logInterval, (marks, tt)))))))))
   where
     flag : bit (s .initialized) < 256 ^ 1
     flag = omega (arith, bit-small (s .initialized))
 
-    options : bit (s .writeCache .persistent) + 2 * bit (s .reordering .persistent) + 4 * bit (s .logInterval .persistent) < 256 ^ 1
-    options = omega (arith, bit-small (s .writeCache .persistent), bit-small (s .reordering .persistent), bit-small (s .logInterval .persistent))
+    marks : bit (s .writeCache .persistent) + 2 * bit (s .reordering .persistent) + 4 * bit (s .logInterval .persistent) < 256 ^ 1
+    marks = omega (arith, bit-small (s .writeCache .persistent), bit-small (s .reordering .persistent), bit-small (s .logInterval .persistent))
 
-table-reads : (interval index : ℕ) → interval < 256 ^ 2 → index < 256 ^ 2 → Reads (tableFields interval index) (form tableHeadSize (tableFields interval index))
-table-reads interval index f g =
-    reads-form tableHeadSize (tableFields interval index) refl
-    (omega arith, (omega arith, (f, (omega arith, (omega arith, (omega arith, (omega arith, (omega arith, (g, tt)))))))))
-
--- a number of the head, read from the body
-pub get-head : (s : Saved) (k at : ℕ) → at + k ≤ headSize → get k (bodyBytes s) at ≡ get k (form headSize (headFields s)) at
+-- .. and the table's index
+index-read : (s : Saved) → SavedFits s → get 2 (bodyBytes s) (headSize + tableIndexPlace) ≡ s .index
 unfolding bodyBytes
-get-head s k at h =
-    get-append-left k (form headSize (headFields s)) (tableBytes (s .logInterval .state) (s .index) (s .history)) at
-    (rw (length-form headSize (headFields s)) h)
-
--- a number of the table's head, read from the body
-get-table : (s : Saved) (k at : ℕ) → at + k ≤ tableHeadSize
-    → get k (bodyBytes s) (headSize + at) ≡ get k (form tableHeadSize (tableFields (s .logInterval .state) (s .index))) at
-unfolding bodyBytes tableBytes
-get-table s k at h =
-    get-append-right k (form headSize (headFields s)) (tableBytes (s .logInterval .state) (s .index) (s .history)) headSize at
-    (length-form headSize (headFields s))
-    ∙ get-append-left k (form tableHeadSize (tableFields (s .logInterval .state) (s .index))) (s .history) at
-    (rw (length-form tableHeadSize (tableFields (s .logInterval .state) (s .index))) h)
+index-read s f =
+    let table = tableBytes (s .logInterval .state) (s .index) (s .history) in
+    get-append-right 2 (form headSize (headFields s)) table headSize tableIndexPlace (length-form headSize (headFields s))
+    ∙ table-reads (s .logInterval .state) (s .index) (s .history) (f .logInterval) (f .index) .1 .1 .1 .1 .0
 
 -- the history, read from the body
 part-history : (s : Saved) → length (s .history) ≡ historySize → part (bodyBytes s) (headSize + tableHeadSize) historySize ≡ s .history
@@ -114,31 +105,43 @@ options-back false false false = (refl, refl, refl)
 
 -- THE LAW of an entry's body: what is saved is read back.
 pub saved-back : (s : Saved) → SavedFits s → savedIn (bodyBytes s) ≡ s
-unfolding savedIn
+unfolding savedAt
 saved-back s f =
-    let reads = head-reads s f in
-    let native = get-head s 8 0 (omega arith) ∙ reads .0 in
-    let visible = get-head s 8 8 (omega arith) ∙ reads .1 .0 in
-    let flag = ap (λ (x : ℕ). eqb x 1) (get-head s 1 16 (omega arith) ∙ reads .1 .1 .0) ∙ flag-back (s .initialized) in
-    let maximum = get-head s 1 17 (omega arith) ∙ reads .1 .1 .1 .0 in
-    let first = get-head s 2 18 (omega arith) ∙ reads .1 .1 .1 .1 .0 in
-    let second = get-head s 2 20 (omega arith) ∙ reads .1 .1 .1 .1 .1 .0 in
-    let third = get-head s 2 22 (omega arith) ∙ reads .1 .1 .1 .1 .1 .1 .0 in
-    let byte = get-head s 1 24 (omega arith) ∙ reads .1 .1 .1 .1 .1 .1 .1 .0 in
-    let options = options-back (s .writeCache .persistent) (s .reordering .persistent) (s .logInterval .persistent) in
-    let index = get-table s 2 32 (omega arith) ∙ table-reads (s .logInterval .state) (s .index) (f .logInterval) (f .index) .1 .1 .1 .1 .1 .1 .1 .1 .0 in
-    let history = part-history s (f .whole) in
+    let sizes = head-reads s f in
+    let features = sizes .1 .1 .1 .1 in
+    let flag = ap (λ (x : ℕ). eqb x 1) (sizes .1 .1 .0) ∙ flag-back (s .initialized) in
+    let byte = features .1 .1 .1 .0 in
+    let marks = options-back (s .writeCache .persistent) (s .reordering .persistent) (s .logInterval .persistent) in
     λ i.
     record {
-      native = native i;
-      visible = visible i;
+      native = sizes .0 i;
+      visible = sizes .1 .0 i;
       initialized = flag i;
-      lifeMaximum = maximum i;
-      writeCache = record { state = first i; persistent = (ap (hasBit 1) byte ∙ options .0) i };
-      reordering = record { state = second i; persistent = (ap (hasBit 2) byte ∙ options .1) i };
-      logInterval = record { state = third i; persistent = (ap (hasBit 4) byte ∙ options .2) i };
-      history = history i;
-      index = index i;
+      lifeMaximum = sizes .1 .1 .1 .0 i;
+      writeCache = record { state = features .0 i; persistent = (ap (hasBit 1) byte ∙ marks .0) i };
+      reordering = record { state = features .1 .0 i; persistent = (ap (hasBit 2) byte ∙ marks .1) i };
+      logInterval = record { state = features .1 .1 .0 i; persistent = (ap (hasBit 4) byte ∙ marks .2) i };
+      history = part-history s (f .whole) i;
+      index = index-read s f i;
+    }
+
+-- .. and what a body says is the same read from it alone, or in place
+pub saved-at : (run : List ℕ) (at : ℕ) → savedIn (part run at bodySize) ≡ savedAt run at
+unfolding savedAt
+saved-at run at =
+    let number : (k i : ℕ) → i + k ≤ bodySize → get k (part run at bodySize) i ≡ get k run (at + i) = λ k i h. get-part k run at bodySize i h in
+    let marks = number 1 marksPlace (omega arith) in
+    λ j.
+    record {
+      native = number 8 nativePlace (omega arith) j;
+      visible = number 8 visiblePlace (omega arith) j;
+      initialized = eqb (number 1 flagPlace (omega arith) j) 1;
+      lifeMaximum = number 1 lifePlace (omega arith) j;
+      writeCache = record { state = number 2 cachePlace (omega arith) j; persistent = hasBit 1 (marks j) };
+      reordering = record { state = number 2 reorderingPlace (omega arith) j; persistent = hasBit 2 (marks j) };
+      logInterval = record { state = number 2 intervalPlace (omega arith) j; persistent = hasBit 4 (marks j) };
+      history = part-part run at bodySize (headSize + tableHeadSize) historySize (omega arith) j;
+      index = number 2 (headSize + tableIndexPlace) (omega arith) j;
     }
 
 -- .. and the body of values in range holds
@@ -148,15 +151,14 @@ body-holds s f r = rw (saved-back s f, same-refl (bodyBytes s)) r
 
 -- an entry is made of bytes
 pub bytes-body : (s : Saved) → Bytes (s .history) → Bytes (bodyBytes s)
-unfolding bodyBytes tableBytes
+unfolding bodyBytes
 bytes-body s b =
-    let table = tableFields (s .logInterval .state) (s .index) in
-    bytes-append (form headSize (headFields s)) (form tableHeadSize table ++ s .history) (bytes-form headSize (headFields s))
-    (bytes-append (form tableHeadSize table) (s .history) (bytes-form tableHeadSize table) b)
+    bytes-append (form headSize (headFields s)) (tableBytes (s .logInterval .state) (s .index) (s .history)) (bytes-form headSize (headFields s))
+    (table-bytes (s .logInterval .state) (s .index) (s .history) b)
 
 pub bytes-trailer : (k : ℕ) → Bytes (trailerBytes k)
 unfolding trailerBytes
-bytes-trailer k = bytes-append (form 12 (trailerFields k)) tag (bytes-form 12 (trailerFields k)) letters
+bytes-trailer k = bytes-append (form tagPlace (trailerFields k)) tag (bytes-form tagPlace (trailerFields k)) letters
   where
     letters : Bytes tag
     letters =
@@ -165,16 +167,16 @@ bytes-trailer k = bytes-append (form 12 (trailerFields k)) tag (bytes-form 12 (t
 
 -- what is read from a body of bytes fits
 pub read-fits : (b : List ℕ) → Bytes b → length b ≡ bodySize → SavedFits (savedIn b)
-unfolding savedIn
+unfolding savedAt
 read-fits b h e =
     record {
-      native = get-fits 8 b 0 h;
-      visible = get-fits 8 b 8 h;
-      lifeMaximum = get-fits 1 b 17 h;
-      writeCache = get-fits 2 b 18 h;
-      reordering = get-fits 2 b 20 h;
-      logInterval = get-fits 2 b 22 h;
-      index = get-fits 2 b (headSize + 32) h;
+      native = get-fits 8 b nativePlace h;
+      visible = get-fits 8 b visiblePlace h;
+      lifeMaximum = get-fits 1 b lifePlace h;
+      writeCache = get-fits 2 b cachePlace h;
+      reordering = get-fits 2 b reorderingPlace h;
+      logInterval = get-fits 2 b intervalPlace h;
+      index = get-fits 2 b (headSize + tableIndexPlace) h;
       whole = length-part b (headSize + tableHeadSize) historySize (omega arith);
       readings = bytes-part b (headSize + tableHeadSize) historySize h;
     }
@@ -234,3 +236,25 @@ range-fits s r m w b =
       whole = w;
       readings = b;
     }
+
+-- ---- "all entries have the same N"
+
+-- what the test `alike` says of two entries
+pub record AreAlike (a b : Saved) : Type 0 where
+  pub sameNative : b .native ≡ a .native
+
+pub alike-parts : (a b : Saved) → alike a b ≡ true → AreAlike a b
+unfolding alike
+alike-parts a b e = record { sameNative = eqb-true (b .native) (a .native) e }
+
+pub parts-alike : (a b : Saved) → AreAlike a b → alike a b ≡ true
+unfolding alike
+parts-alike a b r = eq-eqb (b .native) (a .native) (r .sameNative)
+
+pub alike-self : (s : Saved) → AreAlike s s
+alike-self s = record { sameNative = refl }
+
+-- entries that are alike are alike the same others
+pub alike-others : (a b s : Saved) → AreAlike a b → alike a s ≡ alike b s
+unfolding alike
+alike-others a b s r = ap (eqb (s .native)) (sym (r .sameNative))

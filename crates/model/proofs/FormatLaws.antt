@@ -1,22 +1,24 @@
 -- Laws of the formats: what stands at each place that document 01 names, and 0 everywhere else.
-use mathlib.Core.Path.{_≡_, refl, sym, ap, _∙_}
-use mathlib.Core.Bool.{Bool, true, false}
-use Prim.Native.Nat.{ℕ, zero, suc, _+_, _-_, _/_, _%_, _^_, _≤_, _<_}
+use mathlib.Core.Path.{_≡_, refl, ap, _∙_}
+use mathlib.Core.Bool.{true, _||_}
+use Prim.Native.Nat.{ℕ, zero, _+_, _-_, _/_, _%_, _^_, _≤_, _<_}
 use native.Mathlib.Omega.{arith}
 use mathlib.Core.List.{List, [], _∷_, _++_, append-nil, append-assoc}
 use lib.ListN.{length, getD, take, length-append, List·getD-append}
 use lib.Seq.{take-at, drop-at}
+use lib.Dec.{ltb}
+use borrow.Author.Tests.{le-ltb}
 use Rattle.wire.specs.Choice.{bit}
-use Rattle.wire.specs.Numbers.{get}
+use Rattle.wire.specs.Numbers.{le, get, put}
 use Rattle.wire.specs.Parts.{part, zeros, padded}
-use Rattle.wire.specs.Layout.{Field, form, ordered, Fit, Reads, outside}
+use Rattle.wire.specs.Layout.{Field, form, Fit, Reads, outside}
 use Rattle.wire.specs.Bytes.{Bytes}
-use Rattle.wire.proofs.ChoiceLaws.{bit-small}
+use Rattle.wire.proofs.ChoiceLaws.{bit-small, below, below-all}
 use Rattle.wire.proofs.NumbersLaws.{get-append-left}
 use Rattle.wire.proofs.PartsLaws.{part-append-right, length-padded, length-zeros}
-use Rattle.wire.proofs.LayoutLaws.{length-form, reads-form, form-outside}
+use Rattle.wire.proofs.LayoutLaws.{length-form, reads-form, reads-front, form-outside}
 use Rattle.wire.proofs.BytesLaws.{bytes-append, bytes-form, bytes-padded}
-use Rattle.model.specs.Sizes.{sectorSize, registersSize, mailboxSize, historySize}
+use Rattle.model.specs.Sizes.{sectorSize, nativeLimit, registersSize, mailboxSize, historySize}
 use Rattle.model.specs.Device.{Fill, idle, running, Device}
 use Rattle.model.specs.Status.{driveState, currentLba, statusFields, statusSector}
 use Rattle.model.specs.Temperature.{tableFields, tableHeadSize, tableBytes}
@@ -60,7 +62,7 @@ pub record StatusAt (d : Device) (s : List ℕ) : Type 0 where
   pub rest : (i : ℕ) → outside statusPlaces i ≡ true → getD s i 0 ≡ 0
   pub size : length s ≡ sectorSize
 
-next-fits : (d : Device) (f : Fill) → FillValid (d .visible) f → d .visible ≤ 65536 → currentLba f < 256 ^ 8
+next-fits : (d : Device) (f : Fill) → FillValid (d .visible) f → d .visible ≤ nativeLimit → currentLba f < 256 ^ 8
 next-fits d idle v h = omega arith
 next-fits d (running first next end) v h = omega arith
 
@@ -121,8 +123,25 @@ status-at d v =
 
 -- ---- temperature table
 
-abbrev tablePlaces : List Field
-tablePlaces = (0, 2, 0) ∷ (2, 2, 0) ∷ (4, 2, 0) ∷ (6, 1, 0) ∷ (7, 1, 0) ∷ (8, 1, 0) ∷ (9, 1, 0) ∷ (30, 2, 0) ∷ (32, 2, 0) ∷ []
+-- every field is read back
+pub table-reads : (interval index : ℕ) (history : List ℕ) → interval < 256 ^ 2 → index < 256 ^ 2
+    → Reads (tableFields interval index) (tableBytes interval index history)
+unfolding tableBytes
+table-reads interval index history i x =
+    let fields = tableFields interval index in
+    reads-front fields 0 tableHeadSize (form tableHeadSize fields) history refl (rw (length-form tableHeadSize fields) (omega arith))
+    (reads-form tableHeadSize fields refl (omega arith, (i, (omega arith, (omega arith, (x, tt))))))
+
+-- the fixed numbers in front, and byte by byte
+table-front : (interval index : ℕ)
+    → let t = form tableHeadSize (tableFields interval index) in
+    (get 2 t 0 ≡ 0x0002) × (get 2 t 2 ≡ 1) × (get 1 t 6 ≡ 0x3C) × (get 1 t 7 ≡ 0x46) × (get 1 t 8 ≡ 0x05) × (get 1 t 9 ≡ 0xF6)
+unfolding form put le get
+table-front interval index = (refl, refl, refl, refl, refl, refl)
+
+-- the bytes 10 to 29 are in no field
+table-gap : (interval index : ℕ) → below 30 (λ i. ltb i 10 || outside (tableFields interval index) i) ≡ true
+table-gap interval index = refl
 
 -- "0002h; period 1; interval; bytes 6-9 = 3Ch, 46h, 05h, F6h; zeros; size 478 at 30; index at 32; history from 34"
 pub record TableAt (interval index : ℕ) (history s : List ℕ) : Type 0 where
@@ -130,7 +149,7 @@ pub record TableAt (interval index : ℕ) (history s : List ℕ) : Type 0 where
   pub period : get 2 s 2 ≡ 1
   pub intervalAt : get 2 s 4 ≡ interval
   pub limits : (get 1 s 6 ≡ 0x3C) × (get 1 s 7 ≡ 0x46) × (get 1 s 8 ≡ 0x05) × (get 1 s 9 ≡ 0xF6)
-  pub zero : (i : ℕ) → i < 34 → outside tablePlaces i ≡ true → getD s i 0 ≡ 0
+  pub zero : (i : ℕ) → 10 ≤ i → i < 30 → getD s i 0 ≡ 0
   pub sizeAt : get 2 s 30 ≡ 478
   pub indexAt : get 2 s 32 ≡ index
   pub historyAt : part s 34 478 ≡ history
@@ -140,28 +159,29 @@ pub table-at : (interval index : ℕ) (history : List ℕ) → interval < 256 ^ 
     → TableAt interval index history (tableBytes interval index history)
 unfolding tableBytes
 table-at interval index history i x h =
-    let fit : Fit (tableFields interval index) =
-    (omega arith, (omega arith, (i, (omega arith, (omega arith, (omega arith, (omega arith, (omega arith, (x, tt))))))))) in
-    let r = reads-form tableHeadSize (tableFields interval index) refl fit in
+    let head = form tableHeadSize (tableFields interval index) in
     let size = length-form tableHeadSize (tableFields interval index) in
-    let front : (k at : ℕ) → at + k ≤ 34 → get k (form tableHeadSize (tableFields interval index) ++ history) at ≡ get k (form tableHeadSize (tableFields interval index)) at =
-    λ k at b. get-append-left k (form tableHeadSize (tableFields interval index)) history at (rw size b) in
+    let front : (k at : ℕ) → at + k ≤ tableHeadSize → get k (head ++ history) at ≡ get k head at =
+    λ k at b. get-append-left k head history at (rw size b) in
+    let fixed = table-front interval index in
+    let r = table-reads interval index history i x in
     record {
-      format = front 2 0 (omega arith) ∙ r .0;
-      period = front 2 2 (omega arith) ∙ r .1 .0;
-      intervalAt = front 2 4 (omega arith) ∙ r .1 .1 .0;
+      format = front 2 0 (omega arith) ∙ fixed .0;
+      period = front 2 2 (omega arith) ∙ fixed .1;
+      intervalAt = r .1 .0;
       limits = (
-        front 1 6 (omega arith) ∙ r .1 .1 .1 .0,
-        front 1 7 (omega arith) ∙ r .1 .1 .1 .1 .0,
-        front 1 8 (omega arith) ∙ r .1 .1 .1 .1 .1 .0,
-        front 1 9 (omega arith) ∙ r .1 .1 .1 .1 .1 .1 .0,
+        front 1 6 (omega arith) ∙ fixed .2,
+        front 1 7 (omega arith) ∙ fixed .3,
+        front 1 8 (omega arith) ∙ fixed .4,
+        front 1 9 (omega arith) ∙ fixed .5,
       );
-      zero = λ j b o.
-          List·getD-append (form tableHeadSize (tableFields interval index)) history 0 j (rw size b)
-          ∙ form-outside tableHeadSize (tableFields interval index) j o;
-      sizeAt = front 2 30 (omega arith) ∙ r .1 .1 .1 .1 .1 .1 .1 .0;
-      indexAt = front 2 32 (omega arith) ∙ r .1 .1 .1 .1 .1 .1 .1 .1 .0;
-      historyAt = part-append-right (form tableHeadSize (tableFields interval index)) history 34 478 size h;
+      zero = λ j low high.
+          List·getD-append head history 0 j (rw size (omega arith))
+          ∙ form-outside tableHeadSize (tableFields interval index) j
+          (rw (le-ltb j 10 low) at (below-all 30 (λ k. ltb k 10 || outside (tableFields interval index) k) (table-gap interval index) j high));
+      sizeAt = r .1 .1 .1 .0;
+      indexAt = r .1 .1 .1 .1 .0;
+      historyAt = part-append-right head history tableHeadSize historySize size h;
       size = rw (length-append, size, h);
     }
 

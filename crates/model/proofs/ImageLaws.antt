@@ -1,7 +1,7 @@
 -- Laws of the saved image: every entry, the chain of trailers, and the form that an image is read in.
-use mathlib.Core.Path.{_≡_, refl, sym, ap, ap₂, _∙_}
+use mathlib.Core.Path.{_≡_, refl, sym, ap, ap₂, _∙_, subst}
 use mathlib.Core.Bool.{Bool, true, false, _&&_}
-use Prim.Native.Nat.{ℕ, zero, suc, _+_, _-_, _*_, _/_, _%_, _^_, _≤_, _<_}
+use Prim.Native.Nat.{ℕ, zero, suc, _+_, _-_, _*_, _%_, _≤_, _<_}
 use native.Mathlib.Nat.{add-zero}
 use native.Mathlib.Omega.{arith}
 use mathlib.Core.List.{List, _++_}
@@ -9,20 +9,16 @@ use lib.ListN.{length, drop, length-take, length-drop}
 use lib.Seq.{take-add, drop-drop}
 use lib.Dec.{eqb, leb}
 use borrow.Author.Tests.{eqb-true, eqb-false, leb-true, eq-eqb, ne-eqb, le-leb}
-use Rattle.wire.specs.Choice.{if_then_else_}
 use Rattle.wire.specs.Numbers.{get}
 use Rattle.wire.specs.Parts.{part}
-use Rattle.wire.specs.Layout.{form}
 use Rattle.wire.specs.Bytes.{Bytes, same}
 use Rattle.wire.proofs.ChoiceLaws.{and-left, and-right, and-both, and-three, three-and}
-use Rattle.wire.proofs.NumbersLaws.{get-append-left}
 use Rattle.wire.proofs.PartsLaws.{length-part, part-part, get-part, part-append-left, part-append-right}
-use Rattle.wire.proofs.LayoutLaws.{length-form, reads-form}
 use Rattle.wire.proofs.BytesLaws.{bytes-part, same-refl, same-true}
 use Rattle.model.specs.Sizes.{bodySize, trailerSize, entrySize, entryLimit}
-use Rattle.model.specs.Image.{Saved, bodyBytes, savedIn, inRange, bodyHolds, tag, trailerPlace, previousPlace, trailerFields, trailerBytes, bodyAt, trailerAt, entryHolds, every, entries, newest, readable, chainHolds, sameDisk}
+use Rattle.model.specs.Image.{Saved, bodyBytes, savedAt, savedIn, inRange, bodyHolds, trailerPlace, previousPlace, linkPlace, trailerBytes, bodyAt, trailerAt, alike, entryHolds, every, entries, newest, readable, chainHolds, sameDisk}
 use Rattle.model.proofs.EntryFormat.{get-trailer, trailer-fields}
-use Rattle.model.proofs.EntryLaws.{length-body, length-trailer, SavedFits, saved-back, body-holds, read-fits}
+use Rattle.model.proofs.EntryLaws.{length-body, length-trailer, SavedFits, saved-back, saved-at, body-holds, read-fits, AreAlike, alike-parts, parts-alike, alike-others}
 
 -- ---- every entry, and the chain of trailers
 
@@ -43,57 +39,62 @@ all-every (suc n) f h =
 previous-place : (k : ℕ) → 1 ≤ k → previousPlace (suc k) ≡ trailerPlace k
 previous-place k h = rw (ne-eqb (suc k) 1 (omega arith)) (omega arith)
 
-trailer-reads : (k : ℕ) → k ≤ entryLimit → get 4 (trailerBytes k) 4 ≡ previousPlace k
-trailer-reads k h = get-trailer k 4 (omega arith) ∙ trailer-fields k (omega arith) .1 .0
+trailer-reads : (k : ℕ) → k ≤ entryLimit → get 4 (trailerBytes k) linkPlace ≡ previousPlace k
+trailer-reads k h = get-trailer k linkPlace (omega arith) ∙ trailer-fields k h .1 .0
 
 -- what the test of an entry says
-entry-held : (native : ℕ) (image : List ℕ) (k : ℕ) → entryHolds native image k ≡ true
-    → (bodyHolds (bodyAt image k) ≡ true) × (savedIn (bodyAt image k) .native ≡ native) × (trailerAt image k ≡ trailerBytes k)
+entry-held : (latest : Saved) (image : List ℕ) (k : ℕ) → entryHolds latest image k ≡ true
+    → (bodyHolds (bodyAt image k) ≡ true) × AreAlike latest (savedIn (bodyAt image k)) × (trailerAt image k ≡ trailerBytes k)
 unfolding entryHolds
-entry-held native image k h =
+entry-held latest image k h =
     let body = bodyAt image k in
-    let parts = and-three (bodyHolds body) (eqb (savedIn body .native) native) (same (trailerAt image k) (trailerBytes k)) h in
-    (parts .0, eqb-true (savedIn body .native) native (parts .1), same-true (trailerAt image k) (trailerBytes k) (parts .2))
+    let parts = and-three (bodyHolds body) (alike latest (savedIn body)) (same (trailerAt image k) (trailerBytes k)) h in
+    (parts .0, alike-parts latest (savedIn body) (parts .1), same-true (trailerAt image k) (trailerBytes k) (parts .2))
+
+-- an entry holds beside any newest entry that is alike
+pub holds-alike : (a b : Saved) (image : List ℕ) (k : ℕ) → AreAlike a b → entryHolds a image k ≡ entryHolds b image k
+unfolding entryHolds
+holds-alike a b image k r = rw (alike-others a b (savedIn (bodyAt image k)) r)
 
 -- "follows the chain back": the trailer of an entry that holds leads to the one before
-previous-read : (native : ℕ) (image : List ℕ) (k : ℕ) → k ≤ entryLimit → entryHolds native image k ≡ true
-    → get 4 image (trailerPlace k + 4) ≡ previousPlace k
-previous-read native image k h e =
-    sym (get-part 4 image (trailerPlace k) trailerSize 4 (omega arith))
-    ∙ ap (λ (l : List ℕ). get 4 l 4) (entry-held native image k e .2)
+previous-read : (latest : Saved) (image : List ℕ) (k : ℕ) → k ≤ entryLimit → entryHolds latest image k ≡ true
+    → get 4 image (trailerPlace k + linkPlace) ≡ previousPlace k
+previous-read latest image k h e =
+    sym (get-part 4 image (trailerPlace k) trailerSize linkPlace (omega arith))
+    ∙ ap (λ (l : List ℕ). get 4 l linkPlace) (entry-held latest image k e .2)
     ∙ trailer-reads k h
 
 -- The recursion from the last trailer says that every entry holds.
-pub chain-every : (native : ℕ) (image : List ℕ) (n : ℕ) → n ≤ entryLimit
-    → chainHolds native image n (previousPlace (suc n)) ≡ every n (entryHolds native image)
+pub chain-every : (latest : Saved) (image : List ℕ) (n : ℕ) → n ≤ entryLimit
+    → chainHolds latest image n (previousPlace (suc n)) ≡ every n (entryHolds latest image)
 unfolding chainHolds
-chain-every native image zero h = refl
-chain-every native image (suc k) h =
-    ap (λ (at : ℕ). chainHolds native image (suc k) at) (previous-place (suc k) (omega arith))
-    ∙ rw (eq-eqb (trailerPlace (suc k)) (trailerPlace (suc k)) refl) (go (entryHolds native image (suc k)) refl (chain-every native image k (omega arith)))
+chain-every latest image zero h = refl
+chain-every latest image (suc k) h =
+    ap (λ (at : ℕ). chainHolds latest image (suc k) at) (previous-place (suc k) (omega arith))
+    ∙ rw (eq-eqb (trailerPlace (suc k)) (trailerPlace (suc k)) refl) (go (entryHolds latest image (suc k)) refl (chain-every latest image k (omega arith)))
   where
-    go : (b : Bool) → entryHolds native image (suc k) ≡ b → chainHolds native image k (previousPlace (suc k)) ≡ every k (entryHolds native image)
-        → (b && chainHolds native image k (get 4 image (trailerPlace (suc k) + 4))) ≡ (b && every k (entryHolds native image))
+    go : (b : Bool) → entryHolds latest image (suc k) ≡ b → chainHolds latest image k (previousPlace (suc k)) ≡ every k (entryHolds latest image)
+        → (b && chainHolds latest image k (get 4 image (trailerPlace (suc k) + linkPlace))) ≡ (b && every k (entryHolds latest image))
     go false e rest = refl
-    go true e rest = rw (previous-read native image (suc k) h e) rest
+    go true e rest = rw (previous-read latest image (suc k) h e) rest
 
 -- ---- the form of an image
 
--- "Entries of 560 bytes: 544 of body, a 16-byte trailer at the end": entry k, of values in range that fit, with the image's N.
-pub record EntryForm (native : ℕ) (image : List ℕ) (k : ℕ) : Type 0 where
+-- "Entries of 560 bytes: 544 of body, a 16-byte trailer at the end": entry k, of values in range that fit, alike the newest.
+pub record EntryForm (latest : Saved) (image : List ℕ) (k : ℕ) : Type 0 where
   pub saved : Saved
   pub fits : SavedFits saved
   pub ranged : inRange saved ≡ true
-  pub sameNative : saved .native ≡ native
+  pub like : AreAlike latest saved
   pub bytes : part image (entrySize * (k - 1)) entrySize ≡ bodyBytes saved ++ trailerBytes k
 
 -- "The used length is a multiple of 560, at most 65,520; all entries have the same N."
 pub record ImageForm (image : List ℕ) (used : ℕ) : Type 0 where
-  pub native : ℕ
+  pub latest : Saved
   pub number : ℕ
   pub usedLength : used ≡ entrySize * number
   pub most : number ≤ entryLimit
-  pub each : (k : ℕ) → 1 ≤ k → k ≤ number → EntryForm native image k
+  pub each : (k : ℕ) → 1 ≤ k → k ≤ number → EntryForm latest image k
 
 -- the places of a body and of a trailer, from the entry's first byte
 body-place : (k : ℕ) → 1 ≤ k → trailerPlace k - bodySize ≡ entrySize * (k - 1)
@@ -109,31 +110,31 @@ entry-parts image k h =
     ∙ rw (drop-drop bodySize (entrySize * (k - 1)) image, body-place k h, trailer-place k h)
 
 -- the body and the trailer of an entry that has the form
-body-formed : (native : ℕ) (image : List ℕ) (k : ℕ) → 1 ≤ k → (e : EntryForm native image k) → bodyAt image k ≡ bodyBytes (e .saved)
-body-formed native image k h e =
+body-formed : (latest : Saved) (image : List ℕ) (k : ℕ) → 1 ≤ k → (e : EntryForm latest image k) → bodyAt image k ≡ bodyBytes (e .saved)
+body-formed latest image k h e =
     ap (λ (at : ℕ). part image at bodySize) (body-place k h ∙ sym (add-zero (entrySize * (k - 1))))
     ∙ sym (part-part image (entrySize * (k - 1)) entrySize 0 bodySize (omega arith))
     ∙ ap (λ (l : List ℕ). part l 0 bodySize) (e .bytes)
     ∙ part-append-left (bodyBytes (e .saved)) (trailerBytes k) bodySize (length-body (e .saved) (e .fits .whole))
 
-trailer-formed : (native : ℕ) (image : List ℕ) (k : ℕ) → 1 ≤ k → EntryForm native image k → trailerAt image k ≡ trailerBytes k
-trailer-formed native image k h e =
+trailer-formed : (latest : Saved) (image : List ℕ) (k : ℕ) → 1 ≤ k → EntryForm latest image k → trailerAt image k ≡ trailerBytes k
+trailer-formed latest image k h e =
     ap (λ (at : ℕ). part image at trailerSize) (trailer-place k h)
     ∙ sym (part-part image (entrySize * (k - 1)) entrySize bodySize trailerSize (omega arith))
     ∙ ap (λ (l : List ℕ). part l bodySize trailerSize) (e .bytes)
     ∙ part-append-right (bodyBytes (e .saved)) (trailerBytes k) bodySize trailerSize (length-body (e .saved) (e .fits .whole)) (length-trailer k)
 
 -- what such an entry says, and that it holds
-pub form-saved : (native : ℕ) (image : List ℕ) (k : ℕ) → 1 ≤ k → (e : EntryForm native image k) → savedIn (bodyAt image k) ≡ e .saved
-form-saved native image k h e = ap savedIn (body-formed native image k h e) ∙ saved-back (e .saved) (e .fits)
+pub form-saved : (latest : Saved) (image : List ℕ) (k : ℕ) → 1 ≤ k → (e : EntryForm latest image k) → savedIn (bodyAt image k) ≡ e .saved
+form-saved latest image k h e = ap savedIn (body-formed latest image k h e) ∙ saved-back (e .saved) (e .fits)
 
-pub form-holds : (native : ℕ) (image : List ℕ) (k : ℕ) → 1 ≤ k → EntryForm native image k → entryHolds native image k ≡ true
+pub form-holds : (latest : Saved) (image : List ℕ) (k : ℕ) → 1 ≤ k → EntryForm latest image k → entryHolds latest image k ≡ true
 unfolding entryHolds
-form-holds native image k h e =
-    three-and (bodyHolds (bodyAt image k)) (eqb (savedIn (bodyAt image k) .native) native) (same (trailerAt image k) (trailerBytes k))
-    (rw (body-formed native image k h e) (body-holds (e .saved) (e .fits) (e .ranged)))
-    (eq-eqb (savedIn (bodyAt image k) .native) native (ap (λ (s : Saved). s .native) (form-saved native image k h e) ∙ e .sameNative))
-    (rw (trailer-formed native image k h e) (same-refl (trailerBytes k)))
+form-holds latest image k h e =
+    three-and (bodyHolds (bodyAt image k)) (alike latest (savedIn (bodyAt image k))) (same (trailerAt image k) (trailerBytes k))
+    (rw (body-formed latest image k h e) (body-holds (e .saved) (e .fits) (e .ranged)))
+    (rw (form-saved latest image k h e) (parts-alike latest (e .saved) (e .like)))
+    (rw (trailer-formed latest image k h e) (same-refl (trailerBytes k)))
 
 -- a part that has its whole length lies within the run
 part-within : (l : List ℕ) (b n : ℕ) → 0 < n → length (part l b n) ≡ n → b + n ≤ length l
@@ -147,9 +148,9 @@ body-parts b h =
     (same-true (bodyBytes (savedIn b)) b (and-left again (inRange (savedIn b)) h), and-right again (inRange (savedIn b)) h)
 
 -- an entry that holds has the form
-pub holds-form : (native : ℕ) (image : List ℕ) (k : ℕ) → 1 ≤ k → Bytes image → entryHolds native image k ≡ true → EntryForm native image k
-holds-form native image k h b e =
-    let parts = entry-held native image k e in
+pub holds-form : (latest : Saved) (image : List ℕ) (k : ℕ) → 1 ≤ k → Bytes image → entryHolds latest image k ≡ true → EntryForm latest image k
+holds-form latest image k h b e =
+    let parts = entry-held latest image k e in
     let body = body-parts (bodyAt image k) (parts .0) in
     let within = part-within image (trailerPlace k) trailerSize (omega arith) (ap length (parts .2) ∙ length-trailer k) in
     record {
@@ -158,7 +159,7 @@ holds-form native image k h b e =
           read-fits (bodyAt image k) (bytes-part image (trailerPlace k - bodySize) bodySize b)
           (length-part image (trailerPlace k - bodySize) bodySize (omega arith));
       ranged = body .1;
-      sameNative = parts .1;
+      like = parts .1;
       bytes = entry-parts image k h ∙ ap₂ (λ (x y : List ℕ). x ++ y) (sym (body .0)) (parts .2);
     }
 
@@ -166,12 +167,12 @@ holds-form native image k h b e =
 pub record Readable (image : List ℕ) (used : ℕ) : Type 0 where
   pub multiple : used % entrySize ≡ 0
   pub most : used ≤ entrySize * entryLimit
-  pub each : (k : ℕ) → 1 ≤ k → k ≤ entries used → entryHolds (newest image used .native) image k ≡ true
+  pub each : (k : ℕ) → 1 ≤ k → k ≤ entries used → entryHolds (newest image used) image k ≡ true
 
 pub readable-parts : (image : List ℕ) (used : ℕ) → readable image used ≡ true → Readable image used
 unfolding readable
 readable-parts image used h =
-    let holds = entryHolds (newest image used .native) image in
+    let holds = entryHolds (newest image used) image in
     let parts = and-three (eqb (used % entrySize) 0) (leb used (entrySize * entryLimit)) (every (entries used) holds) h in
     record {
       multiple = eqb-true (used % entrySize) 0 (parts .0);
@@ -182,7 +183,7 @@ readable-parts image used h =
 pub parts-readable : (image : List ℕ) (used : ℕ) → Readable image used → readable image used ≡ true
 unfolding readable
 parts-readable image used r =
-    let holds = entryHolds (newest image used .native) image in
+    let holds = entryHolds (newest image used) image in
     three-and (eqb (used % entrySize) 0) (leb used (entrySize * entryLimit)) (every (entries used) holds)
     (eq-eqb (used % entrySize) 0 (r .multiple))
     (le-leb used (entrySize * entryLimit) (r .most))
@@ -195,11 +196,11 @@ readable-form image used b h =
     let multiple = r .multiple in
     let most = r .most in
     record {
-      native = newest image used .native;
+      latest = newest image used;
       number = entries used;
       usedLength = omega arith;
       most = omega arith;
-      each = λ k low high. holds-form (newest image used .native) image k low b (r .each k low high);
+      each = λ k low high. holds-form (newest image used) image k low b (r .each k low high);
     }
 
 pub form-readable : (image : List ℕ) (used : ℕ) → ImageForm image used → readable image used ≡ true
@@ -209,26 +210,33 @@ form-readable image used f =
     record {
       multiple = omega (arith, f .usedLength);
       most = omega (arith, f .usedLength, f .most);
-      each = λ k low high. rw (native (omega (arith, number))) (form-holds (f .native) image k low (f .each k low (rw number at high)));
+      each =
+          λ k low high.
+          sym (holds-alike (f .latest) (newest image used) image k (like (omega (arith, number))))
+          ∙ form-holds (f .latest) image k low (f .each k low (rw number at high));
     }
     )
   where
     number : entries used ≡ f .number
     number = omega (arith, f .usedLength)
 
-    native : 1 ≤ f .number → newest image used .native ≡ f .native
-    native h =
-        ap (λ (n : ℕ). savedIn (bodyAt image n) .native) number
-        ∙ ap (λ (s : Saved). s .native) (form-saved (f .native) image (f .number) h (f .each (f .number) h (omega arith)))
-        ∙ f .each (f .number) h (omega arith) .sameNative
+    like : 1 ≤ f .number → AreAlike (f .latest) (newest image used)
+    like h =
+        let e = f .each (f .number) h (omega arith) in
+        subst (AreAlike (f .latest))
+        (sym (ap (λ (n : ℕ). savedIn (bodyAt image n)) number ∙ form-saved (f .latest) image (f .number) h e))
+        (e .like)
 
--- ---- "newest entry's N is not this disk's"
+-- ---- the newest entry
 
--- the newest entry is the last 560 bytes of the used length, and its N stands first
-pub newest-native : (image : List ℕ) (used : ℕ) → used % 560 ≡ 0 → 560 ≤ used → newest image used .native ≡ get 8 image (used - 560)
-unfolding savedIn
-newest-native image used whole some =
-    get-part 8 image (trailerPlace (entries used) - bodySize) bodySize 0 (omega arith) ∙ ap (get 8 image) (omega arith)
+-- .. is the last 560 bytes of the used length
+pub newest-at : (image : List ℕ) (used : ℕ) → used % entrySize ≡ 0 → entrySize ≤ used → newest image used ≡ savedAt image (used - entrySize)
+newest-at image used whole some = saved-at image (trailerPlace (entries used) - bodySize) ∙ ap (savedAt image) (omega arith)
+
+-- "newest entry's N is not this disk's": N stands first in it
+newest-native : (image : List ℕ) (used : ℕ) → used % 560 ≡ 0 → 560 ≤ used → newest image used .native ≡ get 8 image (used - 560)
+unfolding savedAt
+newest-native image used whole some = ap (λ (s : Saved). s .native) (newest-at image used whole some) ∙ ap (get 8 image) (add-zero (used - 560))
 
 pub other-disk : (native : ℕ) (image : List ℕ) (used : ℕ) → used % 560 ≡ 0 → 560 ≤ used → (get 8 image (used - 560) ≡ native → ⊥) → sameDisk native image used ≡ false
 other-disk native image used whole some ne =

@@ -6,7 +6,7 @@ use mathlib.Core.List.{List, [], _++_}
 use lib.ListN.{length}
 use lib.Seq.{sets}
 use Rattle.wire.specs.Choice.{firstFailed}
-use Rattle.model.specs.Image.{savedFrom, bodyBytes, trailerBytes, savedImage, restored}
+use Rattle.model.specs.Image.{savedFrom, bodyBytes, trailerBytes, entries, savedImage, restored}
 use Rattle.model.specs.Image.{powerOn as powerOnDevice}
 use Rattle.model.specs.Machine.{empty, Machine}
 use Rattle.model.specs.Step.{save, powerOn, Outcome, checks, poweredOn, step}
@@ -25,7 +25,7 @@ pub save-leaves : (image : List ℕ) (used : ℕ) (M : Machine) → step (save i
 unfolding savedImage
 save-leaves image used M done =
     let passed : firstFailed (checks (save image used) M) ≡ 0 = sym (answer-is (save image used) M) ∙ done in
-    let number : suc (used / 560) ≡ used / 560 + 1 = omega arith in
+    let number : suc (entries used) ≡ used / 560 + 1 = omega arith in
     rw (step-done (save image used) M passed)
     (
     record {

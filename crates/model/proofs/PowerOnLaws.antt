@@ -11,13 +11,13 @@ use borrow.Author.Tests.{eq-eqb, ne-eqb}
 use Rattle.wire.specs.Choice.{if_then_else_}
 use Rattle.wire.specs.Bytes.{Bytes}
 use Rattle.wire.proofs.BytesLaws.{bytes-replicate}
-use Rattle.model.specs.Sizes.{nativeLimit, historySize, missing}
+use Rattle.model.specs.Sizes.{nativeLimit, historySize, missing, powerOnTimer}
 use Rattle.model.specs.Device.{idle, Feature, Device}
 use Rattle.model.specs.Key.{highestState}
 use Rattle.model.specs.Temperature.{emptyHistory, emptyIndex}
 use Rattle.model.specs.Fill.{nothingPending}
 use Rattle.model.specs.Image.{Saved, savedIn, inRange, bodyAt, entries, newest, readable, blank, kept, powerOnThermal, powerOn, restored}
-use Rattle.model.specs.Valid.{StateValid, ThermalValid, Valid}
+use Rattle.model.specs.Valid.{TimerValid, StateValid, ThermalValid, Valid}
 use Rattle.model.proofs.EntryLaws.{SavedFits, Ranged, range-parts, parts-range, range-fits}
 use Rattle.model.proofs.ImageLaws.{form-saved, readable-form}
 
@@ -29,6 +29,10 @@ kept-valid n f top v = go (f .persistent)
     go : (b : Bool) → (1 ≤ (if b then f .state else 1)) × ((if b then f .state else 1) ≤ highestState n)
     go true = v
     go false = (omega arith, top)
+
+-- the timers at power-on are named values
+timer-valid : TimerValid powerOnTimer
+timer-valid = inl refl
 
 length-empty : length emptyHistory ≡ historySize
 length-empty = length-replicate historySize missing
@@ -78,8 +82,8 @@ power-on-valid s f h =
           };
       settingsValid =
           record {
-            readValid = inl refl;
-            writeValid = inl refl;
+            readValid = timer-valid;
+            writeValid = timer-valid;
             cacheValid = kept-valid 1 (s .writeCache) (omega arith) (r .writeCache);
             reorderingValid = kept-valid 2 (s .reordering) (omega arith) (r .reordering);
             intervalValid = kept-valid 3 (s .logInterval) (omega arith) (r .logInterval);
@@ -107,7 +111,7 @@ newest-form image used b h n =
     let low : 1 ≤ f .number = omega (arith, f .usedLength) in
     let e = f .each (f .number) low (omega arith) in (
       e .saved,
-      ap (λ (n : ℕ). savedIn (bodyAt image n)) number ∙ form-saved (f .native) image (f .number) low e,
+      ap (λ (n : ℕ). savedIn (bodyAt image n)) number ∙ form-saved (f .latest) image (f .number) low e,
       e .fits,
       e .ranged,
     )

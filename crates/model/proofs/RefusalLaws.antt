@@ -1,17 +1,16 @@
 -- The answer table of document 01, row by row: a step that passes the rows before and fails this one has this answer.
-use mathlib.Core.Path.{_≡_, refl, sym, ap, _∙_}
-use mathlib.Core.Bool.{Bool, true, false, _&&_, _||_}
-use Prim.Native.Nat.{ℕ, zero, suc, _+_, _/_, _≤_, _<_}
+use mathlib.Core.Path.{_≡_, _∙_}
+use mathlib.Core.Bool.{true, false}
+use Prim.Native.Nat.{ℕ, _/_, _≤_, _<_}
 use native.Mathlib.Omega.{arith}
-use mathlib.Core.List.{List, [], _∷_}
+use mathlib.Core.List.{List}
 use lib.ListN.{length}
-use lib.Dec.{eqb, leb, ltb}
 use borrow.Author.Tests.{eq-eqb, ne-eqb, lt-ltb, le-ltb, lt-leb, le-leb}
-use Rattle.wire.specs.Choice.{if_then_else_, between, firstFailed}
-use Rattle.model.specs.Sizes.{portCount, mailboxSize, entrySize}
+use Rattle.wire.specs.Choice.{firstFailed}
+use Rattle.model.specs.Sizes.{portCount, mailboxSize}
 use Rattle.model.specs.Image.{readable, sameDisk, hasRoom, wholeSectors, powerOnChecks}
-use Rattle.model.specs.Machine.{Port, Machine}
-use Rattle.model.specs.Step.{lock, unlock, setVisible, sample, Step, take, serve, give, work, owner, save, powerOn, isEmpty, isRequest, isReply, Outcome, checks, step}
+use Rattle.model.specs.Machine.{Machine}
+use Rattle.model.specs.Step.{lock, unlock, setVisible, sample, Step, take, serve, give, work, owner, save, isEmpty, isRequest, isReply, step}
 use Rattle.model.proofs.StepLaws.{answer-is}
 
 abbrev pub answerOf : Step → Machine → ℕ

@@ -1,5 +1,5 @@
 -- Laws of a save: it adds one entry and leaves every other byte, and power-on reads back what was saved.
-use mathlib.Core.Path.{_≡_, refl, sym, ap, _∙_}
+use mathlib.Core.Path.{_≡_, refl, ap, _∙_}
 use mathlib.Core.Bool.{Bool, true, false, _||_}
 use Prim.Native.Nat.{ℕ, suc, _+_, _-_, _*_, _/_, _%_, _≤_, _<_}
 use native.Mathlib.Omega.{arith}
@@ -19,8 +19,8 @@ use Rattle.model.specs.Sizes.{sectorSize, nativeLimit, bodySize, trailer
 use Rattle.model.specs.Device.{Device}
 use Rattle.model.specs.Valid.{Valid}
 use Rattle.model.specs.Image.{Saved, savedFrom, bodyBytes, savedIn, inRange, trailerBytes, bodyAt, trailerPlace, entryHolds, entries, newest, readable, sameDisk, saveChecks, savedImage, powerOnChecks, restored}
-use Rattle.model.proofs.EntryLaws.{bytes-body, bytes-trailer, length-body, length-trailer, SavedFits, Ranged, parts-range, range-fits}
-use Rattle.model.proofs.ImageLaws.{EntryForm, form-saved, form-holds, Readable, readable-parts, parts-readable}
+use Rattle.model.proofs.EntryLaws.{bytes-body, bytes-trailer, length-body, length-trailer, SavedFits, Ranged, parts-range, range-fits, AreAlike, alike-self}
+use Rattle.model.proofs.ImageLaws.{holds-alike, EntryForm, form-saved, form-holds, Readable, readable-parts, parts-readable}
 
 -- ---- what a valid device saves
 
@@ -84,10 +84,10 @@ unfolding savedImage
 saved-after d image used i v h = getD-sets-after (added d used) image used i (rw (length-added d used v) h)
 
 -- the entries before hold as they did
-entry-before : (d : Device) (image : List ℕ) (used native k : ℕ) → 1 ≤ k → entrySize * k ≤ used
-    → entryHolds native (savedImage d image used) k ≡ entryHolds native image k
+entry-before : (latest : Saved) (d : Device) (image : List ℕ) (used k : ℕ) → 1 ≤ k → entrySize * k ≤ used
+    → entryHolds latest (savedImage d image used) k ≡ entryHolds latest image k
 unfolding savedImage entryHolds
-entry-before d image used native k low h =
+entry-before latest d image used k low h =
     rw (
       part-before (added d used) image used (trailerPlace k - bodySize) bodySize (omega arith),
       part-before (added d used) image used (trailerPlace k) trailerSize (omega arith),
@@ -122,8 +122,8 @@ module _ (d : Device) (image : List ℕ) (used : ℕ) (valid : Valid d) (passed 
   accepted = save-accepted (d .native) image used passed
 
   -- the entry that a save adds has the form
-  new-entry : EntryForm (d .native) (savedImage d image used) (suc (entries used))
-  unfolding savedImage savedFrom
+  new-entry : EntryForm (savedFrom d) (savedImage d image used) (suc (entries used))
+  unfolding savedImage
   new-entry =
       let multiple = accepted .readableBefore .multiple in
       let place : entrySize * (suc (entries used) - 1) ≡ used = omega arith in
@@ -131,7 +131,7 @@ module _ (d : Device) (image : List ℕ) (used : ℕ) (valid : Valid d) (passed 
         saved = savedFrom d;
         fits = saved-fits d valid;
         ranged = saved-ranged d valid;
-        sameNative = refl;
+        like = alike-self (savedFrom d);
         bytes =
             ap (λ (at : ℕ). part (savedImage d image used) at entrySize) place
             ∙ part-same (added d used) image used entrySize (length-added d used valid) (accepted .room);
@@ -142,29 +142,30 @@ module _ (d : Device) (image : List ℕ) (used : ℕ) (valid : Valid d) (passed 
   unfolding new-entry
   newest-saved =
       ap (λ (n : ℕ). savedIn (bodyAt (savedImage d image used) n)) (entries-after used)
-      ∙ form-saved (d .native) (savedImage d image used) (suc (entries used)) (omega arith) new-entry
+      ∙ form-saved (savedFrom d) (savedImage d image used) (suc (entries used)) (omega arith) new-entry
 
   newest-native : newest (savedImage d image used) (used + entrySize) .native ≡ d .native
   unfolding savedFrom
   newest-native = ap (λ (s : Saved). s .native) newest-saved
 
-  -- the entries before are this disk's
-  native-before : 1 ≤ entries used → newest image used .native ≡ d .native
-  native-before h =
-      eqb-true (newest image used .native) (d .native) (rw (ne-eqb used 0 (omega arith)) at (accepted .ownDisk))
+  -- the entries before are this disk's, and the new one is alike the newest of them
+  like-before : 1 ≤ entries used → AreAlike (savedFrom d) (newest image used)
+  unfolding savedFrom
+  like-before h =
+      record { sameNative = eqb-true (newest image used .native) (d .native) (rw (ne-eqb used 0 (omega arith)) at (accepted .ownDisk)) }
 
   -- every entry of the new image holds
-  each-holds : (k : ℕ) → 1 ≤ k → k ≤ suc (entries used) → entryHolds (d .native) (savedImage d image used) k ≡ true
+  each-holds : (k : ℕ) → 1 ≤ k → k ≤ suc (entries used) → entryHolds (savedFrom d) (savedImage d image used) k ≡ true
   each-holds k low high = go (eqb k (suc (entries used))) refl
     where
-      go : (b : Bool) → eqb k (suc (entries used)) ≡ b → entryHolds (d .native) (savedImage d image used) k ≡ true
+      go : (b : Bool) → eqb k (suc (entries used)) ≡ b → entryHolds (savedFrom d) (savedImage d image used) k ≡ true
       go true e =
-          ap (entryHolds (d .native) (savedImage d image used)) (eqb-true k (suc (entries used)) e)
-          ∙ form-holds (d .native) (savedImage d image used) (suc (entries used)) (omega arith) new-entry
+          ap (entryHolds (savedFrom d) (savedImage d image used)) (eqb-true k (suc (entries used)) e)
+          ∙ form-holds (savedFrom d) (savedImage d image used) (suc (entries used)) (omega arith) new-entry
       go false e =
           let other = eqb-false k (suc (entries used)) e in
-          entry-before d image used (d .native) k low (omega arith)
-          ∙ ap (λ (n : ℕ). entryHolds n image k) (sym (native-before (omega arith)))
+          entry-before (savedFrom d) d image used k low (omega arith)
+          ∙ holds-alike (savedFrom d) (newest image used) image k (like-before (omega arith))
           ∙ accepted .readableBefore .each k low (omega arith)
 
   pub readable-saved : readable (savedImage d image used) (used + entrySize) ≡ true
@@ -176,7 +177,7 @@ module _ (d : Device) (image : List ℕ) (used : ℕ) (valid : Valid d) (passed 
       record {
         multiple = omega arith;
         most = omega arith;
-        each = λ k low high. rw newest-native (each-holds k low (rw entries-after at high));
+        each = λ k low high. rw newest-saved (each-holds k low (rw entries-after at high));
       }
       )
 

@@ -1,15 +1,15 @@
 -- A save that is answered 0, and then a power-on from that image on that disk.
-use mathlib.Core.Path.{_≡_, refl, sym, ap, _∙_}
-use Prim.Native.Nat.{ℕ, zero, suc, _+_, _*_, _/_}
+use mathlib.Core.Path.{_≡_, sym, ap, _∙_}
+use Prim.Native.Nat.{ℕ, _+_, _*_, _/_}
 use native.Mathlib.Omega.{arith}
-use mathlib.Core.List.{List, []}
+use mathlib.Core.List.{List}
 use lib.ListN.{length}
 use Rattle.wire.specs.Choice.{firstFailed}
 use Rattle.model.specs.Sizes.{sectorSize, entrySize}
 use Rattle.model.specs.Image.{savedFrom, saveChecks, savedImage, powerOnChecks, restored}
 use Rattle.model.specs.Image.{powerOn as powerOnDevice}
 use Rattle.model.specs.Machine.{Machine}
-use Rattle.model.specs.Step.{Step, save, powerOn, Seen, Outcome, answeredImage, checks, step}
+use Rattle.model.specs.Step.{save, powerOn, Seen, Outcome, answeredImage, step}
 use Rattle.model.specs.Valid.{MachineValid}
 use Rattle.model.proofs.StepLaws.{step-done, answer-is}
 use Rattle.model.proofs.SaveLaws.{power-on-after-save, restored-saved}

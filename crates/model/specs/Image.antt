@@ -2,7 +2,7 @@
 use mathlib.Core.Bool.{Bool, true, false, _&&_, _||_}
 use Prim.Native.Nat.{ℕ, zero, suc, _+_, _-_, _*_, _/_, _%_}
 use mathlib.Core.List.{List, [], _∷_, _++_}
-use lib.ListN.{length, getD, replicate}
+use lib.ListN.{length}
 use lib.Seq.{sets}
 use lib.Dec.{eqb, leb, ltb}
 use Rattle.wire.specs.Choice.{if_then_else_, bit, between, Check}
@@ -13,7 +13,7 @@ use Rattle.wire.specs.Bytes.{same}
 use Rattle.model.specs.Sizes.{sectorSize, nativeLimit, historySize, missing, powerOnTimer, bodySize, trailerSize, entrySize, entryLimit, badLength, badImage, otherDisk, imageFull}
 use Rattle.model.specs.Device.{idle, Feature, Settings, Thermal, Device}
 use Rattle.model.specs.Key.{highestState}
-use Rattle.model.specs.Temperature.{emptyHistory, emptyIndex, tableHeadSize, tableBytes}
+use Rattle.model.specs.Temperature.{emptyHistory, emptyIndex, tableIndexPlace, tableHeadSize, tableBytes}
 use Rattle.model.specs.Fill.{nothingPending}
 
 -- ---- an entry
@@ -46,20 +46,52 @@ savedFrom d =
 
 -- "Body: N at 0 and V at 8 (8 bytes each), flag 16, life maximum 17, features 1 to 3 at 18, 20, 22,
 -- kept marks in bits 0 to 2 of byte 24, zeros to 31, then the temperature table."
-abbrev pub headFields : Saved → List Field
-headFields s =
-    (0, 8, s .native)
-    ∷ (8, 8, s .visible)
-    ∷ (16, 1, bit (s .initialized))
-    ∷ (17, 1, s .lifeMaximum)
-    ∷ (18, 2, s .writeCache .state)
-    ∷ (20, 2, s .reordering .state)
-    ∷ (22, 2, s .logInterval .state)
-    ∷ (24, 1, bit (s .writeCache .persistent) + 2 * bit (s .reordering .persistent) + 4 * bit (s .logInterval .persistent))
-    ∷ []
+abbrev pub nativePlace : ℕ
+nativePlace = 0
+
+abbrev pub visiblePlace : ℕ
+visiblePlace = 8
+
+abbrev pub flagPlace : ℕ
+flagPlace = 16
+
+abbrev pub lifePlace : ℕ
+lifePlace = 17
+
+abbrev pub cachePlace : ℕ
+cachePlace = 18
+
+abbrev pub reorderingPlace : ℕ
+reorderingPlace = 20
+
+abbrev pub intervalPlace : ℕ
+intervalPlace = 22
+
+abbrev pub marksPlace : ℕ
+marksPlace = 24
+
+abbrev pub zerosPlace : ℕ
+zerosPlace = 25
 
 abbrev pub headSize : ℕ
 headSize = 32
+
+-- N, V, the flag and the life maximum
+abbrev pub sizesOf : Saved → List Field
+sizesOf s =
+    (nativePlace, 8, s .native) ∷ (visiblePlace, 8, s .visible) ∷ (flagPlace, 1, bit (s .initialized)) ∷ (lifePlace, 1, s .lifeMaximum) ∷ []
+
+-- the features' states, and their kept marks in one byte
+abbrev pub featuresOf : Saved → List Field
+featuresOf s =
+    (cachePlace, 2, s .writeCache .state)
+    ∷ (reorderingPlace, 2, s .reordering .state)
+    ∷ (intervalPlace, 2, s .logInterval .state)
+    ∷ (marksPlace, 1, bit (s .writeCache .persistent) + 2 * bit (s .reordering .persistent) + 4 * bit (s .logInterval .persistent))
+    ∷ []
+
+abbrev pub headFields : Saved → List Field
+headFields s = sizesOf s ++ featuresOf s
 
 unfoldable pub bodyBytes : Saved → List ℕ
 bodyBytes s = form headSize (headFields s) ++ tableBytes (s .logInterval .state) (s .index) (s .history)
@@ -68,20 +100,24 @@ bodyBytes s = form headSize (headFields s) ++ tableBytes (s .logInterval .state)
 abbrev pub hasBit : ℕ → ℕ → Bool
 hasBit weight byte = eqb (byte / weight % 2) 1
 
--- what a body's fields say
-unfoldable pub savedIn : List ℕ → Saved
-savedIn b =
+-- what the fields of a body say that stands at a place of a run
+unfoldable pub savedAt : List ℕ → ℕ → Saved
+savedAt run at =
+    let marks = get 1 run (at + marksPlace) in
     record {
-      native = get 8 b 0;
-      visible = get 8 b 8;
-      initialized = eqb (get 1 b 16) 1;
-      lifeMaximum = get 1 b 17;
-      writeCache = record { state = get 2 b 18; persistent = hasBit 1 (get 1 b 24) };
-      reordering = record { state = get 2 b 20; persistent = hasBit 2 (get 1 b 24) };
-      logInterval = record { state = get 2 b 22; persistent = hasBit 4 (get 1 b 24) };
-      history = part b (headSize + tableHeadSize) historySize;
-      index = get 2 b (headSize + 32);
+      native = get 8 run (at + nativePlace);
+      visible = get 8 run (at + visiblePlace);
+      initialized = eqb (get 1 run (at + flagPlace)) 1;
+      lifeMaximum = get 1 run (at + lifePlace);
+      writeCache = record { state = get 2 run (at + cachePlace); persistent = hasBit 1 marks };
+      reordering = record { state = get 2 run (at + reorderingPlace); persistent = hasBit 2 marks };
+      logInterval = record { state = get 2 run (at + intervalPlace); persistent = hasBit 4 marks };
+      history = part run (at + (headSize + tableHeadSize)) historySize;
+      index = get 2 run (at + (headSize + tableIndexPlace));
     }
+
+abbrev pub savedIn : List ℕ → Saved
+savedIn body = savedAt body 0
 
 -- "values in range"
 unfoldable pub inRange : Saved → Bool
@@ -106,15 +142,27 @@ abbrev pub trailerPlace : ℕ → ℕ
 trailerPlace k = entrySize * k - trailerSize
 
 -- "the place of the previous trailer (FFFFFFFFh for the first)"
+abbrev pub noTrailer : ℕ
+noTrailer = 0xFFFFFFFF
+
 abbrev pub previousPlace : ℕ → ℕ
-previousPlace k = if eqb k 1 then 0xFFFFFFFF else trailerPlace (k - 1)
+previousPlace k = if eqb k 1 then noTrailer else trailerPlace (k - 1)
 
 -- "Trailer: 544, the place of the previous trailer .., the entry number from 1 (4 bytes each), then the letters SCTE."
+abbrev pub linkPlace : ℕ
+linkPlace = 4
+
+abbrev pub numberPlace : ℕ
+numberPlace = 8
+
+abbrev pub tagPlace : ℕ
+tagPlace = 12
+
 abbrev pub trailerFields : ℕ → List Field
-trailerFields k = (0, 4, bodySize) ∷ (4, 4, previousPlace k) ∷ (8, 4, k) ∷ []
+trailerFields k = (0, 4, bodySize) ∷ (linkPlace, 4, previousPlace k) ∷ (numberPlace, 4, k) ∷ []
 
 unfoldable pub trailerBytes : ℕ → List ℕ
-trailerBytes k = form 12 (trailerFields k) ++ tag
+trailerBytes k = form tagPlace (trailerFields k) ++ tag
 
 abbrev pub bodyAt : List ℕ → ℕ → List ℕ
 bodyAt image k = part image (trailerPlace k - bodySize) bodySize
@@ -122,10 +170,14 @@ bodyAt image k = part image (trailerPlace k - bodySize) bodySize
 abbrev pub trailerAt : List ℕ → ℕ → List ℕ
 trailerAt image k = part image (trailerPlace k) trailerSize
 
--- entry k holds: its body, its N, its trailer
-unfoldable pub entryHolds : ℕ → List ℕ → ℕ → Bool
-entryHolds native image k =
-    bodyHolds (bodyAt image k) && eqb (savedIn (bodyAt image k) .native) native && same (trailerAt image k) (trailerBytes k)
+-- "all entries have the same N": whether an entry is alike the newest. W-204 adds the form here.
+unfoldable pub alike : Saved → Saved → Bool
+alike latest s = eqb (s .native) (latest .native)
+
+-- entry k holds: its body, alike the newest, and its trailer
+unfoldable pub entryHolds : Saved → List ℕ → ℕ → Bool
+entryHolds latest image k =
+    bodyHolds (bodyAt image k) && alike latest (savedIn (bodyAt image k)) && same (trailerAt image k) (trailerBytes k)
 
 -- ---- an image
 
@@ -146,14 +198,14 @@ unfoldable pub readable : List ℕ → ℕ → Bool
 readable image used =
     eqb (used % entrySize) 0
     && leb used (entrySize * entryLimit)
-    && every (entries used) (entryHolds (newest image used .native) image)
+    && every (entries used) (entryHolds (newest image used) image)
 
 -- "Reading starts at the last trailer and follows the chain back": n entries, the last trailer at a place. It says the same as
 -- "every entry" above (proofs/ImageLaws.antt, chain-every).
-unfoldable pub chainHolds : ℕ → List ℕ → ℕ → ℕ → Bool
-chainHolds native image zero at = eqb at 0xFFFFFFFF
-chainHolds native image (suc k) at =
-    eqb at (trailerPlace (suc k)) && entryHolds native image (suc k) && chainHolds native image k (get 4 image (at + 4))
+unfoldable pub chainHolds : Saved → List ℕ → ℕ → ℕ → Bool
+chainHolds latest image zero at = eqb at noTrailer
+chainHolds latest image (suc k) at =
+    eqb at (trailerPlace (suc k)) && entryHolds latest image (suc k) && chainHolds latest image k (get 4 image (at + linkPlace))
 
 -- whether the image is empty or its newest entry is this disk's
 abbrev pub sameDisk : ℕ → List ℕ → ℕ → Bool
@@ -209,19 +261,20 @@ blank native =
 abbrev pub kept : Feature → Feature
 kept f = record { state = if f .persistent then f .state else 1; persistent = f .persistent }
 
--- The settings of the three features at power-on: "Timers return to 0 at power-on."
-abbrev pub settingsOf : Feature → Feature → Feature → Settings
-settingsOf cache reordering interval =
+-- the settings at power-on, of the two timers and of the three features as they were saved
+abbrev pub settingsOf : ℕ → ℕ → Feature → Feature → Feature → Settings
+settingsOf forRead forWrite cache reordering interval =
     record {
-      readTimer = powerOnTimer;
-      writeTimer = powerOnTimer;
+      readTimer = forRead;
+      writeTimer = forWrite;
       writeCache = kept cache;
       reordering = kept reordering;
       logInterval = kept interval;
     }
 
+-- "Timers return to 0 at power-on."
 abbrev pub powerOnSettings : Saved → Settings
-powerOnSettings s = settingsOf (s .writeCache) (s .reordering) (s .logInterval)
+powerOnSettings s = settingsOf powerOnTimer powerOnTimer (s .writeCache) (s .reordering) (s .logInterval)
 
 -- ".. with "now" and this cycle's maximum missing. The history is kept if the interval after power-on equals the saved one; minutes are 0."
 abbrev pub powerOnThermal : Saved → Thermal

@@ -62,22 +62,39 @@ historyEmptied t =
     }
 
 -- "Table (document 001, Table 19): 0002h; period 1; interval; bytes 6-9 = 3Ch, 46h, 05h, F6h; zeros;
--- size 478 at 30; index at 32; history from 34."
-abbrev pub tableFields : ℕ → ℕ → List Field
-tableFields interval index =
-    (0, 2, 0x0002)
-    ∷ (2, 2, 1)
-    ∷ (4, 2, interval)
-    ∷ (6, 1, 0x3C)
-    ∷ (7, 1, 0x46)
-    ∷ (8, 1, 0x05)
-    ∷ (9, 1, 0xF6)
-    ∷ (30, 2, historySize)
-    ∷ (32, 2, index)
-    ∷ []
+-- size 478 at 30; index at 32; history from 34." What stands before the interval, and bytes 6-9, are a number of four bytes each.
+abbrev pub tableVersions : ℕ
+tableVersions = 0x00010002
+
+abbrev pub tableIntervalPlace : ℕ
+tableIntervalPlace = 4
+
+abbrev pub tableLimitsPlace : ℕ
+tableLimitsPlace = 6
+
+abbrev pub tableLimits : ℕ
+tableLimits = 0xF605463C
+
+abbrev pub tableZerosPlace : ℕ
+tableZerosPlace = 10
+
+abbrev pub tableSizePlace : ℕ
+tableSizePlace = 30
+
+abbrev pub tableIndexPlace : ℕ
+tableIndexPlace = 32
 
 abbrev pub tableHeadSize : ℕ
 tableHeadSize = 34
+
+abbrev pub tableFields : ℕ → ℕ → List Field
+tableFields interval index =
+    (0, 4, tableVersions)
+    ∷ (tableIntervalPlace, 2, interval)
+    ∷ (tableLimitsPlace, 4, tableLimits)
+    ∷ (tableSizePlace, 2, historySize)
+    ∷ (tableIndexPlace, 2, index)
+    ∷ []
 
 unfoldable pub tableBytes : ℕ → ℕ → List ℕ → List ℕ
 tableBytes interval index history = form tableHeadSize (tableFields interval index) ++ history

@@ -24,7 +24,7 @@ fn write_sector(area: &[u8], disk: &mut [u8], p: usize, lba: u64)
     requires { ⌜ (length (now area) ≡ privateSize) × (p < portCount) × (sectorSize * lba + sectorSize ≤ length (now disk)) ⌝ }
     ensures { λ _. ⌜ now (disk .exit) ≡ sets (now (disk .entry)) (sectorSize * lba) (dataOf (slotBytes p (now (area .entry)))) ⌝ }
 {
-    wire::copy_part(
+    runs::copy_part(
         disk,
         (SECTOR_U64 * lba) as usize,
         area,

@@ -5,12 +5,17 @@ use Rattle.wire.specs.Parts.{part}
 use Rattle.model.specs.Sizes.{historySize}
 use Rattle.model.specs.Device.{Fill, idle, running, Transfer, none, table, fillData, Feature, Command, Settings, Thermal, Device}
 use Rattle.model.specs.Temperature.{tableHeadSize}
+use Rattle.model.specs.Registers.{Direction, read, write}
+use Rattle.model.specs.Key.{FeatureName, writeCache, reordering, logInterval}
 use Rattle.store.specs.Areas.{headSize}
 use Rattle.store.specs.Record.{Stage, empty, held, answered, Contents}
 use Rattle.record.specs.declared.device as code
 use Rattle.record.specs.declared.device.Stage.the-variants.{Empty, Held, Answered}
 use Rattle.record.specs.declared.device.Transfer.the-variants.{None, Table, FillData}
 use Rattle.record.specs.declared.device.Fill.the-variants.{Idle, Running}
+use Rattle.record.specs.declared.names as names
+use Rattle.record.specs.declared.names.Direction.the-variants.{Read, Write}
+use Rattle.record.specs.declared.names.FeatureName.the-variants.{Cache, Reordering, Interval}
 
 abbrev pub asStage : code.Stage.Stage → Stage
 asStage Empty = empty
@@ -78,3 +83,14 @@ asContents d history = record { device = asDevice d history; stages = stagesOf (
 -- the history of a record
 abbrev pub historyOf : List ℕ → List ℕ
 historyOf r = part r (headSize + tableHeadSize) historySize
+
+-- ---- what requests and keys name
+
+abbrev pub asDirection : names.Direction.Direction → Direction
+asDirection Read = read
+asDirection Write = write
+
+abbrev pub asFeatureName : names.FeatureName.FeatureName → FeatureName
+asFeatureName Cache = writeCache
+asFeatureName Reordering = reordering
+asFeatureName Interval = logInterval

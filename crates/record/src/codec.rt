@@ -8,6 +8,7 @@ use crate::device::Slot;
 use crate::device::Stage;
 use crate::device::Thermal;
 use crate::device::Transfer;
+use sizes::table;
 ghost use mathlib.Core.Path.{_≡_};
 ghost use Prim.Native.Nat.{_+_, _<_, _≤_};
 ghost use lib.ListN.{length};
@@ -116,7 +117,7 @@ pub fn settings_at(r: &[u8]) -> Settings
         persistent: flag_at(r, 35),
     };
     let interval = Feature {
-        state: wire::u16_at(r, 516),
+        state: wire::u16_at(r, table::RECORD_INTERVAL_AT),
         persistent: flag_at(r, 36),
     };
     Settings {
@@ -137,7 +138,7 @@ fn thermal_at(r: &[u8]) -> Thermal
         current: wire::u8_at(r, 40),
         cycle: wire::u8_at(r, 41),
         life: wire::u8_at(r, 42),
-        index: wire::u16_at(r, 544),
+        index: wire::u16_at(r, table::RECORD_INDEX_AT),
         minutes: wire::u16_at(r, 38),
     }
 }

@@ -76,7 +76,7 @@ pub struct Device {
 
 impl Settings {
     // "Timers return to 0 at power-on."
-    const POWER_ON_TIMER: u16 = 0;
+    pub const POWER_ON_TIMER: u16 = 0;
     // ".. other states return to 1."
     const STATE_NOT_KEPT: u16 = 1;
 
@@ -94,13 +94,19 @@ impl Settings {
         }
     }
 
-    // The settings at power-on, of the features that were saved.
-    pub fn power_on(cache: Feature, reordering: Feature, interval: Feature) -> Settings
-        ensures { λ r. ⌜ asSettings r ≡ settingsOf (asFeature cache) (asFeature reordering) (asFeature interval) ⌝ }
+    // The settings at power-on, of the timers and of the features that were saved.
+    pub fn power_on(
+        read: u16,
+        write: u16,
+        cache: Feature,
+        reordering: Feature,
+        interval: Feature,
+    ) -> Settings
+        ensures { λ r. ⌜ asSettings r ≡ settingsOf read write (asFeature cache) (asFeature reordering) (asFeature interval) ⌝ }
     {
         Settings {
-            read: Self::POWER_ON_TIMER,
-            write: Self::POWER_ON_TIMER,
+            read,
+            write,
             cache: Self::kept(cache),
             reordering: Self::kept(reordering),
             interval: Self::kept(interval),
@@ -115,6 +121,6 @@ impl Settings {
             state: Self::STATE_NOT_KEPT,
             persistent: false,
         };
-        Self::power_on(f, f, f)
+        Self::power_on(Self::POWER_ON_TIMER, Self::POWER_ON_TIMER, f, f, f)
     }
 }

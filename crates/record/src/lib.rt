@@ -1,6 +1,7 @@
-// The device record: the device as a struct by value (device.rt), and read from the record's bytes (codec.rt).
+// The device record: the device as a struct by value (device.rt), and read from the record's bytes (codec.rt); what requests and keys name of it (names.rt).
 mod codec;
 mod device;
+mod names;
 
 pub use codec::code_at;
 pub use codec::decode;
@@ -19,3 +20,5 @@ pub use device::Slot;
 pub use device::Stage;
 pub use device::Thermal;
 pub use device::Transfer;
+pub use names::Direction;
+pub use names::FeatureName;

@@ -1,8 +1,8 @@
 // A reply: its registers, and the bytes that it is in the slot.
+use runs::zero_part;
 use sizes::REGISTERS;
 use sizes::SECTOR;
 use wire::put_u8;
-use wire::zero_part;
 ghost use mathlib.Core.Path.{_≡_};
 ghost use Prim.Native.Nat.{_+_, _≤_};
 ghost use mathlib.Core.List.{[]};

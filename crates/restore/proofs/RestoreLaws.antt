@@ -11,14 +11,14 @@ use borrow.Author.Tests.{eq-eqb, ne-eqb}
 use Rattle.wire.specs.Choice.{if_then_else_, firstFailed}
 use Rattle.wire.specs.Numbers.{get}
 use Rattle.wire.specs.Parts.{part}
-use Rattle.wire.specs.Bytes.{Bytes}
 use Rattle.wire.proofs.PartsLaws.{length-part, part-same}
 use Rattle.model.specs.Sizes.{portCount, historySize, missing, bodySize, entrySize}
 use Rattle.model.specs.Device.{idle, Settings, Device}
 use Rattle.model.specs.Temperature.{tableHeadSize, emptyHistory, emptyIndex}
 use Rattle.model.specs.Fill.{nothingPending}
-use Rattle.model.specs.Image.{Saved, savedIn, trailerPlace, entries, imageChecks, blank, powerOnSettings, powerOnThermal, powerOn, restored}
-use Rattle.model.proofs.ImageLaws.{readable-parts}
+use Rattle.model.specs.Image.{Saved, intervalPlace, savedAt, imageChecks, blank, powerOnSettings, powerOnThermal, powerOn, restored}
+use Rattle.model.specs.Image.{headSize as bodyHead}
+use Rattle.model.proofs.ImageLaws.{readable-parts, newest-at}
 use Rattle.store.specs.Areas.{headSize}
 use Rattle.store.specs.Record.{Stage, empty, encode}
 use Rattle.store.specs.Entries.{restoredContents}
@@ -27,8 +27,6 @@ use Rattle.writing.specs.Framed.{Framed}
 use Rattle.writing.specs.Blank.{blankRecord}
 use Rattle.writing.proofs.FramedLaws.{history-stored}
 use Rattle.writing.proofs.BlankLaws.{blank-framed, blank-history}
-use Rattle.image.specs.InPlace.{savedAt}
-use Rattle.image.proofs.EntryInPlace.{saved-at}
 use Rattle.image.proofs.RefusalLaws.{read-readable, read-entry}
 
 -- a device with these values, and all else as power-on leaves it
@@ -74,22 +72,24 @@ module _ (r image : List ℕ) (at interval : ℕ) where
   copied =
       if eqb interval (savedAt image at .logInterval .state) then sets r (headSize + tableHeadSize) (savedAt image at .history) else r
 
-  pub history-copied : interval ≡ get 2 image (at + 22) → sets r 546 (part image (at + 66) 478) ≡ copied
+  pub history-copied : interval ≡ get 2 image (at + intervalPlace)
+      → sets r (headSize + tableHeadSize) (part image (at + (bodyHead + tableHeadSize)) historySize) ≡ copied
   unfolding savedAt
-  history-copied e = rw (eq-eqb interval (get 2 image (at + 22)) e)
+  history-copied e = rw (eq-eqb interval (get 2 image (at + intervalPlace)) e)
 
-  pub history-left : (interval ≡ get 2 image (at + 22) → ⊥) → r ≡ copied
+  pub history-left : (interval ≡ get 2 image (at + intervalPlace) → ⊥) → r ≡ copied
   unfolding savedAt
-  history-left ne = rw (ne-eqb interval (get 2 image (at + 22)) ne)
+  history-left ne = rw (ne-eqb interval (get 2 image (at + intervalPlace)) ne)
 
 saved-history : (image : List ℕ) (at : ℕ) → at + bodySize ≤ length image → length (savedAt image at .history) ≡ historySize
 unfolding savedAt
-saved-history image at fits = length-part image (at + 66) 478 (omega arith)
+saved-history image at fits = length-part image (at + (bodyHead + tableHeadSize)) historySize (omega arith)
 
 -- what is left of a blank record when the history is copied, or not
 history-into : (b : Bool) (r h : List ℕ) → Framed r → historyOf r ≡ emptyHistory → length h ≡ historySize
     → Framed (if b then sets r (headSize + tableHeadSize) h else r) × (historyOf (if b then sets r (headSize + tableHeadSize) h else r) ≡ (if b then h else emptyHistory))
-history-into true r h f none size = (history-stored r 546 h (omega arith) f, part-same h r 546 478 size (omega (arith, f .size)))
+history-into true r h f none size =
+    (history-stored r (headSize + tableHeadSize) h (omega arith) f, part-same h r (headSize + tableHeadSize) historySize size (omega (arith, f .size)))
 history-into false r h f none size = (f, none)
 
 pub history-after : (r after image : List ℕ) (at interval : ℕ) → at + bodySize ≤ length image → r ≡ blankRecord → after ≡ copied r image at interval
@@ -113,12 +113,8 @@ module _ (native : ℕ) (image : List ℕ) (used : ℕ) where
   unfolding restored
   restored-blank e = rw (eq-eqb used 0 e)
 
-  pub restored-newest : Bytes image → firstFailed (imageChecks native image used) ≡ 0 → (used ≡ 0 → ⊥) → savedAt image (used - entrySize) ≡ restored native image used
+  pub restored-newest : firstFailed (imageChecks native image used) ≡ 0 → (used ≡ 0 → ⊥) → savedAt image (used - entrySize) ≡ restored native image used
   unfolding restored
-  restored-newest b e some =
-      let within = read-entry native image used e some in
+  restored-newest e some =
       let even = readable-parts image used (read-readable native image used e) .multiple in
-      let place : trailerPlace (entries used) - bodySize ≡ used - entrySize = omega (arith, within .0) in
-      sym
-      (rw (ne-eqb used 0 some)
-      (ap (λ (at : ℕ). savedIn (part image at bodySize)) place ∙ saved-at image (used - entrySize) b (omega (arith, within .0, within .1))))
+      sym (rw (ne-eqb used 0 some) (newest-at image used even (read-entry native image used e some .0)))

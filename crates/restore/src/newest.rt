@@ -8,7 +8,12 @@ use record::Slot;
 use record::Stage;
 use record::Thermal;
 use record::Transfer;
+use sizes::EMPTY_INDEX;
 use sizes::ENTRY;
+use sizes::HISTORY;
+use sizes::MISSING;
+use sizes::entry;
+use sizes::table;
 ghost use mathlib.Core.Path.{_≡_};
 ghost use Prim.Native.Nat.{_+_, _≤_};
 ghost use lib.ListN.{length, replicate};
@@ -17,12 +22,11 @@ ghost use lib.Dec.{eqb};
 ghost use Rattle.wire.specs.Choice.{if_then_else_, firstFailed};
 ghost use Rattle.model.specs.Sizes.{portCount, bodySize};
 ghost use Rattle.model.specs.Temperature.{tableHeadSize, emptyHistory, emptyIndex};
-ghost use Rattle.model.specs.Image.{Saved, hasBit, imageChecks, blank, powerOnSettings, powerOnThermal, powerOn, restored};
+ghost use Rattle.model.specs.Image.{Saved, hasBit, savedAt, imageChecks, blank, powerOnSettings, powerOnThermal, powerOn, restored};
 ghost use Rattle.store.specs.Areas.{headSize, recordSize};
 ghost use Rattle.store.specs.Record.{empty, encode};
 ghost use Rattle.store.specs.Entries.{restoredContents};
 ghost use Rattle.record.specs.Meaning.{asSettings, asDevice, stagesOf};
-ghost use Rattle.image.specs.InPlace.{savedAt};
 
 // Whether the bit of a weight (1, 2, 4 ..) is 1 in a byte.
 fn has_bit(weight: u8, byte: u8) -> bool
@@ -37,20 +41,26 @@ fn saved_settings(image: &[u8], at: usize) -> Settings
     requires { ⌜ at + bodySize ≤ length (now image) ⌝ }
     ensures { λ r. ⌜ asSettings r ≡ powerOnSettings (savedAt (now (image .entry)) at) ⌝ }
 {
-    let options = wire::u8_at(image, at + 24);
+    let marks = wire::u8_at(image, at + entry::MARKS_AT);
     let cache = Feature {
-        state: wire::u16_at(image, at + 18),
-        persistent: has_bit(1, options),
+        state: wire::u16_at(image, at + entry::CACHE_AT),
+        persistent: has_bit(1, marks),
     };
     let reordering = Feature {
-        state: wire::u16_at(image, at + 20),
-        persistent: has_bit(2, options),
+        state: wire::u16_at(image, at + entry::REORDERING_AT),
+        persistent: has_bit(2, marks),
     };
     let interval = Feature {
-        state: wire::u16_at(image, at + 22),
-        persistent: has_bit(4, options),
+        state: wire::u16_at(image, at + entry::INTERVAL_AT),
+        persistent: has_bit(4, marks),
     };
-    Settings::power_on(cache, reordering, interval)
+    Settings::power_on(
+        Settings::POWER_ON_TIMER,
+        Settings::POWER_ON_TIMER,
+        cache,
+        reordering,
+        interval,
+    )
 }
 
 // A device at power-on: "Unlocked, no fill, nothing owed, .. code, action and function 0".
@@ -82,8 +92,8 @@ fn powered(
         },
         settings,
         thermal: Thermal {
-            current: 0x80,
-            cycle: 0x80,
+            current: MISSING,
+            cycle: MISSING,
             life,
             index,
             minutes: 0,
@@ -97,7 +107,8 @@ fn blank_device(native: u64) -> Device
     ensures { λ r. ⌜ asDevice r emptyHistory ≡ powerOn (blank native) ⌝ }
     ensures stages { λ r. ⌜ stagesOf (r .slots) ≡ replicate portCount empty ⌝ }
 {
-    powered(native, native, false, 0x80, Settings::defaults(), 477)
+    let settings = Settings::defaults();
+    powered(native, native, false, MISSING, settings, EMPTY_INDEX)
 }
 
 // "The history is kept if the interval after power-on equals the saved one": its index.
@@ -105,10 +116,10 @@ fn kept_index(image: &[u8], at: usize, interval: u16) -> u16
     requires { ⌜ at + bodySize ≤ length (now image) ⌝ }
     ensures { λ r. ⌜ r ≡ (if eqb interval (savedAt (now (image .entry)) at .logInterval .state) then savedAt (now (image .entry)) at .index else emptyIndex) ⌝ }
 {
-    if interval == wire::u16_at(image, at + 22) {
-        wire::u16_at(image, at + 64)
+    if interval == wire::u16_at(image, at + entry::INTERVAL_AT) {
+        wire::u16_at(image, at + entry::INDEX_AT)
     } else {
-        477
+        EMPTY_INDEX
     }
 }
 
@@ -118,10 +129,10 @@ fn saved_device(image: &[u8], at: usize) -> Device
     ensures { λ r. ⌜ asDevice r (powerOnThermal (savedAt (now (image .entry)) at) .history) ≡ powerOn (savedAt (now (image .entry)) at) ⌝ }
     ensures stages { λ r. ⌜ stagesOf (r .slots) ≡ replicate portCount empty ⌝ }
 {
-    let native = wire::u64_at(image, at);
-    let visible = wire::u64_at(image, at + 8);
-    let initialized = wire::u8_at(image, at + 16) == 1;
-    let life = wire::u8_at(image, at + 17);
+    let native = wire::u64_at(image, at + entry::NATIVE_AT);
+    let visible = wire::u64_at(image, at + entry::VISIBLE_AT);
+    let initialized = wire::u8_at(image, at + entry::FLAG_AT) == 1;
+    let life = wire::u8_at(image, at + entry::LIFE_AT);
     let settings = saved_settings(image, at);
     let interval = settings.interval.state;
     let index = kept_index(image, at, interval);
@@ -133,8 +144,14 @@ fn put_history(r: &mut [u8], image: &[u8], at: usize, interval: u16)
     requires { ⌜ (length (now r) ≡ recordSize) × (at + bodySize ≤ length (now image)) ⌝ }
     ensures { λ _. ⌜ now (r .exit) ≡ (if eqb interval (savedAt (now (image .entry)) at .logInterval .state) then sets (now (r .entry)) (headSize + tableHeadSize) (savedAt (now (image .entry)) at .history) else now (r .entry)) ⌝ }
 {
-    if interval == wire::u16_at(image, at + 22) {
-        wire::copy_part(r, 546, image, at + 66, 478);
+    if interval == wire::u16_at(image, at + entry::INTERVAL_AT) {
+        runs::copy_part(
+            r,
+            table::RECORD_HISTORY_AT,
+            image,
+            at + entry::HISTORY_AT,
+            HISTORY,
+        );
     }
 }
 

@@ -4,15 +4,15 @@ use mathlib.Core.Bool.{Bool, true, false, not}
 use mathlib.Core.List.{List}
 use Prim.Native.Nat.{ℕ, suc, _+_, _<_}
 use native.Mathlib.Omega.{arith}
-use lib.ListN.{length, set}
+use lib.ListN.{set}
 use lib.Dec.{ltb, eqb}
-use borrow.Author.Tests.{eqb-true, eqb-false}
+use borrow.Author.Tests.{eqb-false}
 use Rattle.wire.specs.Choice.{if_then_else_}
 use Rattle.wire.specs.Bytes.{Bytes}
 use Rattle.model.specs.Sizes.{historySize}
 use Rattle.model.specs.Update.{withThermal}
 use Rattle.model.specs.Device.{Thermal, Device}
-use Rattle.model.specs.Temperature.{tableHeadSize, nextIndex, sampled}
+use Rattle.model.specs.Temperature.{tableHeadSize, nextIndex}
 use Rattle.model.specs.Owner.{sample}
 use Rattle.store.specs.Areas.{headSize}
 use Rattle.store.specs.Record.{Contents, decode, encode}
@@ -20,7 +20,7 @@ use Rattle.store.specs.Sound.{sound}
 use Rattle.store.specs.Entries.{ownerDone, withDevice}
 use Rattle.store.proofs.SoundLaws.{sound-valid}
 use Rattle.record.specs.declared.device as code
-use Rattle.record.specs.Meaning.{asThermal, asDevice, asContents, stagesOf, historyOf}
+use Rattle.record.specs.Meaning.{asDevice, asContents, historyOf}
 use Rattle.writing.specs.Framed.{Framed}
 use Rattle.writing.proofs.FramedLaws.{logged-framed}
 use Rattle.writing.proofs.HistoryLaws.{history-logged}
@@ -88,7 +88,7 @@ module _ (t : code.Thermal.Thermal) (interval reading : ℕ) (r : List ℕ) wher
 
 module _ (reading : ℕ) (r : List ℕ) (d : code.Device.Device) (says : asContents d (historyOf r) ≡ decode r) where
   -- "minutes counted are below it, the history index is at most 477"
-  pub sample-ready : Bytes r → sound r ≡ true → (d .thermal .minutes < d .settings .interval .state) × (d .thermal .index < 478)
+  pub sample-ready : Bytes r → sound r ≡ true → (d .thermal .minutes < d .settings .interval .state) × (d .thermal .index < historySize)
   sample-ready b s =
       let v = sound-valid r b s .device .thermalValid in
       let m = ap (λ (c : Contents). c .device .thermal .minutes) says in

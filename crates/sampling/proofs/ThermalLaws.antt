@@ -10,6 +10,7 @@ use lib.Dec.{leb, ltb}
 use borrow.Author.Tests.{eq-eqb, ne-eqb, leb-true, le-leb, lt-leb, ltb-true, ltb-false}
 use Rattle.wire.specs.Choice.{if_then_else_}
 use Rattle.wire.proofs.ChoiceLaws.{tests-same}
+use Rattle.model.specs.Sizes.{historySize}
 use Rattle.model.specs.Temperature.{signed, newMaximum, nextIndex, sampled}
 use Rattle.record.specs.declared.device as code
 use Rattle.sampling.specs.Sampled.{shifted, Sampled}
@@ -62,11 +63,11 @@ module _ (t : code.Thermal.Thermal) (interval sample cycle life : ℕ) (c : cycl
 
 -- ---- counting
 
-pub index-last : (i : ℕ) → i ≡ 477 → 0 ≡ nextIndex i
-index-last i e = rw (eq-eqb (suc i) 478 (omega arith))
+pub index-last : (i : ℕ) → i ≡ historySize - 1 → 0 ≡ nextIndex i
+index-last i e = rw (eq-eqb (suc i) historySize (omega arith))
 
-pub index-more : (i : ℕ) → (i ≡ 477 → ⊥) → i + 1 ≡ nextIndex i
-index-more i ne = rw (ne-eqb (suc i) 478 (λ e. ne (omega arith))) (omega arith)
+pub index-more : (i : ℕ) → (i ≡ historySize - 1 → ⊥) → i + 1 ≡ nextIndex i
+index-more i ne = rw (ne-eqb (suc i) historySize (λ e. ne (omega arith))) (omega arith)
 
 -- a minute is logged where it reaches the interval
 pub logged-test : (minutes interval : ℕ) → leb interval (minutes + 1) ≡ not (ltb (suc minutes) interval)

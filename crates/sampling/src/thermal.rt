@@ -1,5 +1,7 @@
 // Temperatures: a sample, by value. A reading that is logged goes into the record's history, which the caller writes.
 use record::Thermal;
+use sizes::LAST_INDEX;
+use sizes::MISSING;
 ghost use mathlib.Core.Path.{_≡_};
 ghost use mathlib.Core.Bool.{not};
 ghost use Prim.Native.Nat.{_<_, suc};
@@ -19,10 +21,10 @@ fn shifted(b: u8) -> u8
 pub fn new_maximum(sample: u8, old: u8) -> u8
     ensures { λ r. ⌜ r ≡ newMaximum sample old ⌝ }
 {
-    if sample == 0x80 {
+    if sample == MISSING {
         return old;
     }
-    if old == 0x80 {
+    if old == MISSING {
         return sample;
     }
     if shifted(sample) <= shifted(old) {
@@ -36,7 +38,7 @@ pub fn next_index(index: u16) -> u16
     requires { ⌜ index < historySize ⌝ }
     ensures { λ r. ⌜ r ≡ nextIndex index ⌝ }
 {
-    if index == 477 { 0 } else { index + 1 }
+    if index == LAST_INDEX { 0 } else { index + 1 }
 }
 
 // Whether this minute's sample is logged.

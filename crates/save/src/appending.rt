@@ -2,9 +2,12 @@
 use image::TAG;
 use image::previous_place;
 use sizes::BODY;
+use sizes::BODY_U32;
 use sizes::ENTRY;
 use sizes::SECTOR;
 use sizes::TABLE_AT;
+use sizes::entry;
+use sizes::table;
 ghost use mathlib.Core.Path.{_≡_};
 ghost use mathlib.Core.Bool.{true};
 ghost use Prim.Native.Nat.{_+_, _*_, _/_, _≤_, _<_};
@@ -15,11 +18,10 @@ ghost use Rattle.wire.specs.Choice.{bit};
 ghost use Rattle.wire.specs.Parts.{zeros};
 ghost use Rattle.wire.specs.Layout.{stores, placed};
 ghost use Rattle.model.specs.Sizes.{trailerSize, entrySize, entryLimit};
-ghost use Rattle.model.specs.Image.{headSize, trailerBytes, savedImage};
+ghost use Rattle.model.specs.Image.{savedFrom, headSize, sizesOf, featuresOf, trailerBytes, savedImage};
 ghost use Rattle.store.specs.Areas.{recordSize};
 ghost use Rattle.store.specs.Record.{flagOf, decode};
 ghost use Rattle.store.specs.Sound.{sound};
-ghost use Rattle.save.specs.Head.{sizesOf, featuresOf};
 
 // Writes trailer `number` at `at`.
 fn put_trailer(image: &mut [u8], at: usize, number: u32)
@@ -27,11 +29,11 @@ fn put_trailer(image: &mut [u8], at: usize, number: u32)
     ensures { λ _. ⌜ now (image .exit) ≡ sets (now (image .entry)) at (trailerBytes number) ⌝ }
 {
     let letters = TAG;
-    wire::zero_part(image, at, 12);
-    wire::put_u32(image, at, 544);
-    wire::put_u32(image, at + 4, previous_place(number));
-    wire::put_u32(image, at + 8, number);
-    wire::copy_part(image, at + 12, &letters, 0, 4);
+    runs::zero_part(image, at, entry::TAG_AT);
+    wire::put_u32(image, at, BODY_U32);
+    wire::put_u32(image, at + entry::LINK_AT, previous_place(number));
+    wire::put_u32(image, at + entry::NUMBER_AT, number);
+    runs::copy_part(image, at + entry::TAG_AT, &letters, 0, 4);
 }
 
 // The flag in the record's byte at `at`, as 0 or 1.
@@ -44,7 +46,7 @@ fn flag_bit(r: &[u8], at: usize) -> u8
 }
 
 // "kept marks in bits 0 to 2 of byte 24"
-fn options(r: &[u8]) -> u8
+fn marks(r: &[u8]) -> u8
     requires { ⌜ length (now r) ≡ recordSize ⌝ }
     ensures { λ res. ⌜ res ≡ bit (flagOf (get 1 (now (r .entry)) 34)) + 2 * bit (flagOf (get 1 (now (r .entry)) 35)) + 4 * bit (flagOf (get 1 (now (r .entry)) 36)) ⌝ }
 {
@@ -54,24 +56,28 @@ fn options(r: &[u8]) -> u8
 // Clears the head of a body at `at`, and writes N, V, the flag and the life maximum.
 fn put_sizes(image: &mut [u8], at: usize, r: &[u8])
     requires { ⌜ (at + headSize ≤ length (now image)) × (length (now r) ≡ recordSize) ⌝ }
-    ensures { λ _. ⌜ now (image .exit) ≡ stores (placed at (sizesOf (now (r .entry)))) (sets (now (image .entry)) at (zeros headSize)) ⌝ }
+    ensures { λ _. ⌜ now (image .exit) ≡ stores (placed at (sizesOf (savedFrom (decode (now (r .entry)) .device)))) (sets (now (image .entry)) at (zeros headSize)) ⌝ }
 {
-    wire::zero_part(image, at, 32);
-    wire::put_u64(image, at, wire::u64_at(r, 0));
-    wire::put_u64(image, at + 8, wire::u64_at(r, 8));
-    wire::put_u8(image, at + 16, flag_bit(r, 17));
-    wire::put_u8(image, at + 17, wire::u8_at(r, 42));
+    runs::zero_part(image, at, entry::TABLE_AT);
+    wire::put_u64(image, at + entry::NATIVE_AT, wire::u64_at(r, 0));
+    wire::put_u64(image, at + entry::VISIBLE_AT, wire::u64_at(r, 8));
+    wire::put_u8(image, at + entry::FLAG_AT, flag_bit(r, 17));
+    wire::put_u8(image, at + entry::LIFE_AT, wire::u8_at(r, 42));
 }
 
-// Writes the features of a body at `at`.
+// Writes the features of a body at `at`, and their marks.
 fn put_features(image: &mut [u8], at: usize, r: &[u8])
     requires { ⌜ (at + headSize ≤ length (now image)) × (length (now r) ≡ recordSize) ⌝ }
-    ensures { λ _. ⌜ now (image .exit) ≡ stores (placed at (featuresOf (now (r .entry)))) (now (image .entry)) ⌝ }
+    ensures { λ _. ⌜ now (image .exit) ≡ stores (placed at (featuresOf (savedFrom (decode (now (r .entry)) .device)))) (now (image .entry)) ⌝ }
 {
-    wire::put_u16(image, at + 18, wire::u16_at(r, 30));
-    wire::put_u16(image, at + 20, wire::u16_at(r, 32));
-    wire::put_u16(image, at + 22, wire::u16_at(r, 516));
-    wire::put_u8(image, at + 24, options(r));
+    wire::put_u16(image, at + entry::CACHE_AT, wire::u16_at(r, 30));
+    wire::put_u16(image, at + entry::REORDERING_AT, wire::u16_at(r, 32));
+    wire::put_u16(
+        image,
+        at + entry::INTERVAL_AT,
+        wire::u16_at(r, table::RECORD_INTERVAL_AT),
+    );
+    wire::put_u8(image, at + entry::MARKS_AT, marks(r));
 }
 
 // "A save adds one entry behind the used length; other bytes stay."
@@ -82,6 +88,6 @@ pub fn put_entry(image: &mut [u8], used: usize, r: &[u8])
 {
     put_sizes(image, used, r);
     put_features(image, used, r);
-    wire::copy_part(image, used + 32, r, TABLE_AT, SECTOR);
+    runs::copy_part(image, used + entry::TABLE_AT, r, TABLE_AT, SECTOR);
     put_trailer(image, used + BODY, (used / ENTRY) as u32 + 1);
 }

@@ -1,4 +1,3 @@
 -- In reading order.
-pub mod CheckLaws
 pub mod StepLaws
 pub mod VisibleLaws

@@ -23,7 +23,7 @@ use Rattle.store.specs.Entries.{withStage, withDevice, withFillSector, ServeAft
 use Rattle.store.proofs.SoundLaws.{sound-valid}
 use Rattle.store.proofs.FollowLaws.{slot-sized}
 use Rattle.fill.proofs.StepsLaws.{hidden-record, hidden-disk}
-use Rattle.service.proofs.CheckLaws.{DiskPassed, visible-native}
+use Rattle.checks.proofs.CheckLaws.{DiskPassed, visible-native}
 
 -- what is known where the visible part of a disk, up to e, is handed on
 pub record Seen (r a disk : List ℕ) (e : ℕ) : Type 0 where

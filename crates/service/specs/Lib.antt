@@ -1,3 +1,2 @@
--- What the steps need and report beside the store's definitions.
-pub mod Needed
+-- What a step reports beside the store's definitions.
 pub mod Result

@@ -1,6 +1,5 @@
-// The ten steps that the firmware calls: a port's (ports.rt), work (works.rt), the owner's (owner.rt), and saved images (images.rt),
-// each after its checks (checks.rt). The mailbox is a parameter of sct_take and sct_give only.
-mod checks;
+// The ten steps that the firmware calls: a port's (ports.rt), work (works.rt), the owner's (owner.rt), and those with a saved image
+// (images.rt). The mailbox is a parameter of sct_take and sct_give only.
 mod images;
 mod owner;
 mod ports;

@@ -1,30 +1,13 @@
 // The owner's steps on the record: lock, unlock, set V, sample.
 ghost use mathlib.Core.Path.{_≡_};
-ghost use mathlib.Core.List.{[], _∷_};
-ghost use Rattle.model.specs.Owner.{setLock};
-ghost use Rattle.store.specs.Entries.{soundRecord, ownerBytes, lockBytes, unlockBytes, visibleChecks, setVisibleBytes, sampleBytes};
-ghost use Rattle.wire.specs.Choice.{firstFailed};
-
-// "Locking, unlocking and setting V do the same as other requests": they stop a fill, and nothing stays pending.
-fn put_lock(device: &mut [u8], locked: bool) -> u32
-    ensures { λ n. ⌜ n ≡ ownerBytes (soundRecord (now (device .entry)) ∷ []) (setLock locked) (now (device .entry)) .answer ⌝ }
-    ensures device { λ _. ⌜ now (device .exit) ≡ ownerBytes (soundRecord (now (device .entry)) ∷ []) (setLock locked) (now (device .entry)) .recordArea ⌝ }
-{
-    if !soundness::sound(device) {
-        return 4;
-    }
-    let d = record::decode(device);
-    let e = control::set_lock(d, locked);
-    writing::write(device, e);
-    0
-}
+ghost use Rattle.store.specs.Entries.{lockBytes, unlockBytes, setVisibleBytes, sampleBytes};
 
 #[no_mangle]
 pub extern "C" fn sct_lock(device: &mut [u8]) -> u32
     ensures { λ n. ⌜ n ≡ lockBytes (now (device .entry)) .answer ⌝ }
     ensures device { λ _. ⌜ now (device .exit) ≡ lockBytes (now (device .entry)) .recordArea ⌝ }
 {
-    put_lock(device, true)
+    owner_steps::lock(device)
 }
 
 #[no_mangle]
@@ -32,21 +15,7 @@ pub extern "C" fn sct_unlock(device: &mut [u8]) -> u32
     ensures { λ n. ⌜ n ≡ unlockBytes (now (device .entry)) .answer ⌝ }
     ensures device { λ _. ⌜ now (device .exit) ≡ unlockBytes (now (device .entry)) .recordArea ⌝ }
 {
-    put_lock(device, false)
-}
-
-// "V asked is 0 or above N": 5.
-fn visible_refusal(device: &[u8], v: u64) -> u32
-    ensures { λ n. ⌜ n ≡ firstFailed (visibleChecks (now (device .entry)) v) ⌝ }
-{
-    if !soundness::sound(device) {
-        return 4;
-    }
-    let native = record::native_at(device);
-    if !((1 <= v) & (v <= native)) {
-        return 5;
-    }
-    0
+    owner_steps::unlock(device)
 }
 
 #[no_mangle]
@@ -54,14 +23,7 @@ pub extern "C" fn sct_set_visible(device: &mut [u8], v: u64) -> u32
     ensures { λ n. ⌜ n ≡ setVisibleBytes (now (device .entry)) v .answer ⌝ }
     ensures device { λ _. ⌜ now (device .exit) ≡ setVisibleBytes (now (device .entry)) v .recordArea ⌝ }
 {
-    let refusal = visible_refusal(device, v);
-    if refusal != 0 {
-        return refusal;
-    }
-    let d = record::decode(device);
-    let e = control::set_visible(d, v);
-    writing::write(device, e);
-    0
+    owner_steps::set_visible(device, v)
 }
 
 #[no_mangle]
@@ -69,9 +31,5 @@ pub extern "C" fn sct_sample(device: &mut [u8], reading: u8) -> u32
     ensures { λ n. ⌜ n ≡ sampleBytes (now (device .entry)) reading .answer ⌝ }
     ensures device { λ _. ⌜ now (device .exit) ≡ sampleBytes (now (device .entry)) reading .recordArea ⌝ }
 {
-    if !soundness::sound(device) {
-        return 4;
-    }
-    sampling::sample(device, reading);
-    0
+    owner_steps::sample(device, reading)
 }

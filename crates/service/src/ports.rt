@@ -1,7 +1,7 @@
 // The steps of a port: take, serve, give.
-use crate::checks::mailbox_refusal;
-use crate::checks::serve_refusal;
-use crate::checks::visible_len;
+use checks::mailbox_refusal;
+use checks::serve_refusal;
+use checks::visible_len;
 use record::Stage;
 use sizes::MAILBOX;
 ghost use mathlib.Core.Path.{_≡_};
@@ -19,7 +19,7 @@ pub extern "C" fn sct_take(device: &mut [u8], port: u32, mailbox: &[u8], area: &
         return refusal;
     }
     let p = port as usize;
-    wire::copy_part(area, MAILBOX * p, mailbox, 0, MAILBOX);
+    runs::copy_part(area, MAILBOX * p, mailbox, 0, MAILBOX);
     writing::put_stage(device, p, Stage::Held);
     0
 }
@@ -53,7 +53,7 @@ pub extern "C" fn sct_give(device: &mut [u8], port: u32, mailbox: &mut [u8], are
         return refusal;
     }
     let p = port as usize;
-    wire::copy_part(mailbox, 0, area, MAILBOX * p, MAILBOX);
+    runs::copy_part(mailbox, 0, area, MAILBOX * p, MAILBOX);
     writing::put_stage(device, p, Stage::Empty);
     0
 }

@@ -1,6 +1,6 @@
 // The work step.
-use crate::checks::visible_len;
-use crate::checks::work_refusal;
+use checks::visible_len;
+use checks::work_refusal;
 ghost use mathlib.Core.Path.{_≡_};
 ghost use Prim.Native.Nat.{_+_, _*_};
 ghost use Rattle.store.specs.Entries.{workBytes};

@@ -2,7 +2,9 @@
 use record::Fill;
 use record::Settings;
 use record::Transfer;
+use sizes::HISTORY_U16;
 use sizes::NATIVE_LIMIT;
+use sizes::table;
 ghost use mathlib.Core.Path.{_≡_};
 ghost use mathlib.Core.Bool.{_&&_};
 ghost use mathlib.Core.List.{[], _∷_};
@@ -117,5 +119,6 @@ pub fn device_sound(r: &[u8]) -> bool
     ((1 <= visible) & (visible <= native) & (native <= NATIVE_LIMIT))
         & command_sound(r, visible)
         & settings_sound(settings)
-        & ((wire::u16_at(r, 38) < interval) & (wire::u16_at(r, 544) < 478))
+        & ((wire::u16_at(r, 38) < interval)
+            & (wire::u16_at(r, table::RECORD_INDEX_AT) < HISTORY_U16))
 }

@@ -13,13 +13,13 @@ pub fn spare_zero(r: &[u8]) -> bool
     requires { ⌜ length (now r) ≡ recordSize ⌝ }
     ensures { λ res. ⌜ res ≡ zeroRuns spareRuns (now (r .entry)) ⌝ }
 {
-    wire::is_zero(r, 19, 1)
-        & (wire::is_zero(r, 37, 1)
-            & (wire::is_zero(r, 43, 5)
-                & (wire::is_zero(r, 74, 6)
-                    & (wire::is_zero(r, 98, 6)
-                        & (wire::is_zero(r, 122, 6)
-                            & (wire::is_zero(r, 146, 6) & wire::is_zero(r, 168, 344)))))))
+    runs::is_zero(r, 19, 1)
+        & (runs::is_zero(r, 37, 1)
+            & (runs::is_zero(r, 43, 5)
+                & (runs::is_zero(r, 74, 6)
+                    & (runs::is_zero(r, 98, 6)
+                        & (runs::is_zero(r, 122, 6)
+                            & (runs::is_zero(r, 146, 6) & runs::is_zero(r, 168, 344)))))))
 }
 
 // The flag in the byte at `at` is 0 or 1.

@@ -1,4 +1,6 @@
 // A temperature table that stands in a run of bytes: the record's, or that of a saved entry.
+use sizes::HISTORY_U16;
+use sizes::table;
 ghost use mathlib.Core.Path.{_≡_};
 ghost use Prim.Native.Nat.{_+_, _≤_};
 ghost use lib.ListN.{length};
@@ -11,8 +13,8 @@ pub fn table_fixed(run: &[u8], at: usize) -> bool
     ensures { λ r. ⌜ r ≡ tableFixed (now (run .entry)) at ⌝ }
 {
     let versions = wire::u32_at(run, at);
-    let limits = wire::u32_at(run, at + 6);
-    let gap = wire::is_zero(run, at + 10, 20);
-    let size = wire::u16_at(run, at + 30);
-    (versions == 0x00010002) & (limits == 0xF605463C) & (gap & (size == 478))
+    let limits = wire::u32_at(run, at + table::LIMITS_AT);
+    let zero = runs::is_zero(run, at + table::ZEROS_AT, table::ZEROS);
+    let size = wire::u16_at(run, at + table::SIZE_AT);
+    (versions == table::VERSIONS) & (limits == table::LIMITS) & (zero & (size == HISTORY_U16))
 }

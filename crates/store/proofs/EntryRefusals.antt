@@ -1,24 +1,22 @@
 -- The answer table at the entries, in numbers: an entry that passes the checks before and fails this one has this answer.
-use mathlib.Core.Path.{_≡_, refl, sym, ap, _∙_}
-use mathlib.Core.Bool.{Bool, true, false, _&&_}
-use Prim.Native.Nat.{ℕ, zero, suc, _*_, _/_, _≤_, _<_}
+use mathlib.Core.Path.{_≡_, refl, _∙_}
+use mathlib.Core.Bool.{Bool, true, false}
+use Prim.Native.Nat.{ℕ, _*_, _/_, _≤_, _<_}
 use native.Mathlib.Omega.{arith}
-use mathlib.Core.List.{List, [], _∷_}
+use mathlib.Core.List.{List}
 use lib.ListN.{length}
-use lib.Dec.{eqb, leb, ltb}
-use borrow.Author.Tests.{eqb-true, eq-eqb, ne-eqb, lt-ltb, le-ltb, lt-leb, le-leb}
+use borrow.Author.Tests.{eq-eqb, ne-eqb, lt-ltb, le-ltb, lt-leb, le-leb}
 use Rattle.wire.specs.Choice.{firstFailed}
 use Rattle.model.specs.Image.{readable, sameDisk, hasRoom, wholeSectors}
 use Rattle.model.specs.Image.{powerOnChecks as diskChecks}
 use Rattle.model.specs.Step.{setVisible, Step, take, serve, give, work, owner, save, powerOn}
 use Rattle.model.specs.Decide.{Serving}
 use Rattle.model.proofs.RefusalLaws.{power-on-disk, power-on-length, power-on-unreadable, power-on-other}
-use Rattle.store.specs.Record.{Stage, empty, held, answered, decode}
+use Rattle.store.specs.Record.{decode}
 use Rattle.store.specs.Sound.{sound}
 use Rattle.store.specs.Store.{Store, stageFor}
 use Rattle.store.specs.Entries.{isEmpty, isHeld, isAnswered}
 use Rattle.store.specs.OnStore.{onStore}
-use Rattle.store.proofs.EntryLaws.{storeChecks}
 use Rattle.store.proofs.SoundLaws.{sound-parts}
 use Rattle.store.proofs.AnswerLaws.{entry-answer}
 

@@ -1,34 +1,32 @@
 -- The tests in place say soundness, exactly.
 use mathlib.Core.Path.{_≡_, refl, sym, ap, ap₂, _∙_, subst}
 use mathlib.Core.Bool.{Bool, true, false, not, _&&_, _||_}
-use Prim.Native.Nat.{ℕ, zero, suc, _+_, _-_, _*_, _^_, _≤_, _<_}
+use Prim.Native.Nat.{ℕ, zero, suc, _+_, _-_, _≤_, _<_}
 use native.Mathlib.Omega.{arith}
-use native.Mathlib.Nat.{add-zero}
 use native.Mathlib.Decide.{decLt}
 use mathlib.Core.List.{List, [], _∷_, _++_}
-use lib.ListN.{length, getD, take, drop, length-take, length-drop, take-append-drop, List·getD-append, List·getD-eq-default}
-use lib.Seq.{take-add, drop-drop, take-all}
+use lib.ListN.{length, getD, drop, length-take, length-drop, take-append-drop, List·getD-append, List·getD-eq-default}
+use lib.Seq.{take-all}
 use lib.Dec.{eqb, leb, ltb}
-use borrow.Author.Tests.{eqb-true, eqb-false, eq-eqb, ne-eqb, leb-true, le-leb, lt-leb, ltb-true, lt-ltb}
-use Rattle.wire.specs.Choice.{if_then_else_, bit}
+use borrow.Author.Tests.{eqb-true, eq-eqb, ne-eqb, leb-true, le-leb, lt-leb, ltb-true, lt-ltb}
+use Rattle.wire.specs.Choice.{bit}
 use Rattle.wire.specs.Numbers.{get}
 use Rattle.wire.specs.Parts.{part}
 use Rattle.wire.specs.Layout.{Field, form, Reads, outside}
 use Rattle.wire.specs.Bytes.{Bytes, allZero}
 use Rattle.wire.proofs.ChoiceLaws.{and-left, and-right, and-both, and-three, three-and, bit-small, below, below-all, tests-same}
-use Rattle.wire.proofs.NumbersLaws.{get-join}
 use Rattle.wire.proofs.PartsLaws.{length-part, getD-part, get-part}
 use Rattle.wire.proofs.LayoutLaws.{length-form, reads-both, form-outside}
 use Rattle.wire.proofs.FormUnique.{form-unique}
-use Rattle.wire.proofs.BytesLaws.{bytes-part, get-fits, all-zero-true, zero-all-true}
-use Rattle.model.specs.Sizes.{sectorSize, historySize}
-use Rattle.model.specs.Device.{Fill, idle, running, Transfer, none, table, fillData, Device}
-use Rattle.model.specs.Temperature.{tableFields, tableHeadSize, tableBytes}
+use Rattle.wire.proofs.BytesLaws.{bytes-part, all-zero-true, zero-all-true}
+use Rattle.model.specs.Sizes.{sectorSize}
+use Rattle.model.specs.Device.{Fill, idle, running, Transfer, none, table, fillData}
+use Rattle.model.specs.Temperature.{tableBytes}
 use Rattle.store.specs.Areas.{recordSize, headSize}
-use Rattle.store.specs.Record.{Stage, empty, held, answered, Contents, stageNumber, fillKind, fillFirst, fillNext, fillEnd, transferKind, transferFirst, transferEnd, sizeFields, commandFields, settingsFields, thermalFields, fillFields, slotAt, slotFields, slotOf, slotsFields, headFields, encode, stageOf, fillOf, transferOf, flagOf, stageAt, transferAt, decode}
+use Rattle.store.specs.Record.{Stage, empty, held, answered, Contents, stageNumber, fillKind, fillFirst, fillNext, fillEnd, transferKind, transferFirst, transferEnd, sizeFields, commandFields, settingsFields, thermalFields, fillFields, slotAt, slotFields, slotsFields, headFields, encode, stageOf, fillOf, transferOf, flagOf, stageAt, transferAt, decode}
 use Rattle.store.specs.Sound.{deviceSound, sound}
 use Rattle.store.specs.InPlace.{spareRuns, zeroRuns, flagsNamed, fillNamed, slotNamed, tableFixed, soundInPlace}
-use Rattle.store.proofs.RecordLaws.{ContentsFit, valid-fits, length-encode, slot, slots, group-reads, slot-reads, table-part}
+use Rattle.store.proofs.RecordLaws.{ContentsFit, valid-fits, length-encode, slot, group-reads, slot-reads, table-part}
 use Rattle.store.proofs.TableInPlace.{implied, table-is, table-fixed}
 use Rattle.store.proofs.SoundLaws.{sound-parts, parts-sound, sound-valid}
 

@@ -1,12 +1,11 @@
 -- The record of valid contents says those contents: what is encoded is decoded again.
-use mathlib.Core.Path.{_≡_, refl, sym, ap, ap₂, _∙_}
+use mathlib.Core.Path.{_≡_, refl, sym, ap, _∙_}
 use mathlib.Core.Bool.{Bool, true, false}
-use Prim.Native.Nat.{ℕ, zero, suc, _+_, _*_, _^_, _≤_, _<_}
+use Prim.Native.Nat.{ℕ, zero, suc, _+_, _^_, _≤_, _<_}
 use native.Mathlib.Omega.{arith}
 use mathlib.Core.List.{List, [], _∷_, _++_}
 use lib.ListN.{length, getD, length-append}
-use lib.Dec.{eqb}
-use Rattle.wire.specs.Choice.{if_then_else_, bit}
+use Rattle.wire.specs.Choice.{bit}
 use Rattle.wire.specs.Numbers.{get}
 use Rattle.wire.specs.Parts.{part}
 use Rattle.wire.specs.Layout.{Field, form, Fit, Reads}
@@ -15,10 +14,10 @@ use Rattle.wire.proofs.ChoiceLaws.{bit-small}
 use Rattle.wire.proofs.PartsLaws.{part-part, get-part, part-append-right}
 use Rattle.wire.proofs.LayoutLaws.{length-form, reads-form, reads-append, reads-front, fit-append}
 use Rattle.wire.proofs.BytesLaws.{bytes-append, bytes-form}
-use Rattle.model.specs.Sizes.{sectorSize, historySize}
-use Rattle.model.specs.Device.{Fill, idle, running, Transfer, none, table, fillData, Feature, Command, Settings, Thermal, Device}
-use Rattle.model.specs.Temperature.{tableHeadSize, tableBytes}
-use Rattle.model.specs.Valid.{FillValid, TransferValid, PendingValid, CommandValid, SettingsValid, ThermalValid, Valid}
+use Rattle.model.specs.Sizes.{sectorSize, nativeLimit, historySize}
+use Rattle.model.specs.Device.{Fill, idle, running, Transfer, none, table, fillData, Device}
+use Rattle.model.specs.Temperature.{tableIntervalPlace, tableIndexPlace, tableHeadSize, tableBytes}
+use Rattle.model.specs.Valid.{FillValid, TransferValid, PendingValid, Valid}
 use Rattle.model.proofs.FormatLaws.{TableAt, table-at, table-bytes}
 use Rattle.store.specs.Areas.{recordSize, headSize}
 use Rattle.store.specs.Record.{Stage, empty, held, answered, Contents, stageNumber, fillKind, fillFirst, fillNext, fillEnd, transferKind, transferFirst, transferEnd, sizeFields, commandFields, settingsFields, thermalFields, fillFields, slotAt, slotFields, slotOf, slotsFields, headFields, encode, stageOf, fillOf, transferOf, flagOf, stageAt, transferAt, decode}
@@ -45,12 +44,12 @@ stage-fits empty = omega arith
 stage-fits held = omega arith
 stage-fits answered = omega arith
 
-slot-fits : (visible at : ℕ) (s : Stage) (t : Transfer) → visible ≤ 65536 → TransferValid visible t → Fit (slotFields at s t)
+slot-fits : (visible at : ℕ) (s : Stage) (t : Transfer) → visible ≤ nativeLimit → TransferValid visible t → Fit (slotFields at s t)
 slot-fits visible at s none h v = (stage-fits s, (omega arith, (omega arith, (omega arith, tt))))
 slot-fits visible at s table h v = (stage-fits s, (omega arith, (omega arith, (omega arith, tt))))
 slot-fits visible at s (fillData first end) h v = (stage-fits s, (omega arith, (omega (arith, v .0, v .1), (omega (arith, v .1), tt))))
 
-fill-fits : (visible : ℕ) (f : Fill) → visible ≤ 65536 → FillValid visible f → (fillKind f < 256) × Fit (fillFields f)
+fill-fits : (visible : ℕ) (f : Fill) → visible ≤ nativeLimit → FillValid visible f → (fillKind f < 256) × Fit (fillFields f)
 fill-fits visible idle h v = (omega arith, (omega arith, (omega arith, (omega arith, tt))))
 fill-fits visible (running first next end) h v =
     (omega arith, (omega (arith, v .0, v .1, v .2), (omega (arith, v .1, v .2), (omega (arith, v .2), tt))))
@@ -85,7 +84,7 @@ module _ (c : Contents) (v : Valid (c .device)) where
   abbrev d : Device
   d = c .device
 
-  limit : d .visible ≤ 65536
+  limit : d .visible ≤ nativeLimit
   limit = omega (arith, v .sizes)
 
   slots-fit : Fit (slots c)
@@ -190,13 +189,17 @@ module _ (c : Contents) (v : ContentsFit c) where
       part-append-right (form headSize (headFields c)) (tableBytes (e .settings .logInterval .state) (e .thermal .index) (e .thermal .history)) headSize sectorSize
       (length-form headSize (headFields c)) (table-says .size)
 
-  interval-read : get 2 (encode c) (headSize + 4) ≡ e .settings .logInterval .state
+  interval-read : get 2 (encode c) (headSize + tableIntervalPlace) ≡ e .settings .logInterval .state
   interval-read =
-      sym (get-part 2 (encode c) headSize sectorSize 4 (omega arith)) ∙ ap (λ (l : List ℕ). get 2 l 4) table-part ∙ table-says .intervalAt
+      sym (get-part 2 (encode c) headSize sectorSize tableIntervalPlace (omega arith))
+      ∙ ap (λ (l : List ℕ). get 2 l tableIntervalPlace) table-part
+      ∙ table-says .intervalAt
 
-  index-read : get 2 (encode c) (headSize + 32) ≡ e .thermal .index
+  index-read : get 2 (encode c) (headSize + tableIndexPlace) ≡ e .thermal .index
   index-read =
-      sym (get-part 2 (encode c) headSize sectorSize 32 (omega arith)) ∙ ap (λ (l : List ℕ). get 2 l 32) table-part ∙ table-says .indexAt
+      sym (get-part 2 (encode c) headSize sectorSize tableIndexPlace (omega arith))
+      ∙ ap (λ (l : List ℕ). get 2 l tableIndexPlace) table-part
+      ∙ table-says .indexAt
 
   history-read : part (encode c) (headSize + tableHeadSize) historySize ≡ e .thermal .history
   history-read =

@@ -1,6 +1,6 @@
 -- A save that answers 0, and then a power-on from that image on that disk, whatever has been written to it since.
 use mathlib.Core.Path.{_≡_, refl, sym, ap, _∙_}
-use Prim.Native.Nat.{ℕ, _+_, _*_, _/_}
+use Prim.Native.Nat.{ℕ, _+_, _/_}
 use native.Mathlib.Omega.{arith}
 use mathlib.Core.List.{List}
 use lib.ListN.{length}
@@ -9,7 +9,7 @@ use Rattle.wire.specs.Choice.{firstFailed}
 use Rattle.wire.proofs.ChoiceLaws.{all-pass, pass-all}
 use Rattle.model.specs.Sizes.{sectorSize, entrySize}
 use Rattle.model.specs.Device.{Device}
-use Rattle.model.specs.Image.{Saved, savedFrom, savedImage, restored, powerOn}
+use Rattle.model.specs.Image.{savedFrom, savedImage, restored}
 use Rattle.model.specs.Image.{saveChecks as savingChecks}
 use Rattle.model.specs.Step.{save, Seen, Outcome, answeredImage}
 use Rattle.model.specs.Valid.{Valid}

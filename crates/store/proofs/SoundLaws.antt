@@ -18,6 +18,7 @@ use Rattle.wire.proofs.BytesLaws.{bytes-part, get-fits, same-refl, same-true}
 use Rattle.model.specs.Sizes.{nativeLimit, historySize}
 use Rattle.model.specs.Device.{Fill, idle, running, Transfer, none, table, fillData, Command, Settings, Device}
 use Rattle.model.specs.Key.{highestState}
+use Rattle.model.specs.Temperature.{tableHeadSize}
 use Rattle.model.specs.Fill.{runningCode}
 use Rattle.model.specs.Valid.{FillValid, TransferValid, PendingValid, pendingCount, pendingLimit, CodeValid, CommandValid, TimerValid, SettingsValid, ThermalValid, Valid}
 use Rattle.model.proofs.SoundLaws.{Clauses, Stored, valid-clauses, clauses-valid}
@@ -187,8 +188,8 @@ device-fits r b size =
       commandWords = (get-fits 2 r 20 b, get-fits 2 r 22 b, get-fits 2 r 24 b);
       timers = (get-fits 2 r 26 b, get-fits 2 r 28 b);
       transfers = refl;
-      history = length-part r (headSize + 34) historySize (omega arith);
-      readings = bytes-part r (headSize + 34) historySize b;
+      history = length-part r (headSize + tableHeadSize) historySize (omega arith);
+      readings = bytes-part r (headSize + tableHeadSize) historySize b;
       temperatures = (get-fits 1 r 40 b, get-fits 1 r 41 b, get-fits 1 r 42 b);
     }
 

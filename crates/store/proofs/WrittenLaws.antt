@@ -1,7 +1,7 @@
 -- Storing the fields over a record whose spare and fixed bytes stand gives the record of the new values.
 use mathlib.Core.Path.{_≡_, refl, sym, ap, _∙_, subst}
 use mathlib.Core.Bool.{true}
-use Prim.Native.Nat.{ℕ, _+_, _≤_}
+use Prim.Native.Nat.{ℕ, _+_}
 use native.Mathlib.Omega.{arith}
 use mathlib.Core.List.{List, _++_}
 use lib.ListN.{length, drop, take-append-drop}
@@ -13,7 +13,7 @@ use Rattle.wire.proofs.PartsLaws.{length-part, put-behind}
 use Rattle.wire.proofs.LayoutLaws.{length-form, stores-front}
 use Rattle.wire.proofs.FormUnique.{form-stored}
 use Rattle.model.specs.Sizes.{historySize}
-use Rattle.model.specs.Temperature.{tableHeadSize, tableBytes}
+use Rattle.model.specs.Temperature.{tableIntervalPlace, tableIndexPlace, tableHeadSize, tableBytes}
 use Rattle.store.specs.Areas.{recordSize, headSize}
 use Rattle.store.specs.Record.{Contents, headFields, tableNumbers, encode, decode}
 use Rattle.store.specs.InPlace.{spareRuns, zeroRuns, tableFixed}
@@ -30,7 +30,7 @@ head-stored r c size spare =
     ∙ ap (λ (l : List ℕ). l ++ drop headSize r) (form-stored headSize (headFields c) (part r 0 headSize) whole refl (head-rest r c size spare))
 
 -- the two numbers in a table
-table-stored : (i x interval index : ℕ) (history : List ℕ) → put 2 (put 2 (tableBytes i x history) 4 interval) 32 index ≡ tableBytes interval index history
+table-stored : (i x interval index : ℕ) (history : List ℕ) → put 2 (put 2 (tableBytes i x history) tableIntervalPlace interval) tableIndexPlace index ≡ tableBytes interval index history
 unfolding tableBytes form put le
 table-stored i x interval index history = refl
 
@@ -39,8 +39,8 @@ table-behind : (head : List ℕ) (i x interval index : ℕ) (history : List ℕ)
     → stores (tableNumbers interval index) (head ++ tableBytes i x history) ≡ head ++ tableBytes interval index history
 table-behind head i x interval index history e =
     let t = tableBytes i x history in
-    ap (λ (l : List ℕ). put 2 l (headSize + 32) index) (put-behind 2 head t headSize 4 interval e)
-    ∙ put-behind 2 head (put 2 t 4 interval) headSize 32 index e
+    ap (λ (l : List ℕ). put 2 l (headSize + tableIndexPlace) index) (put-behind 2 head t headSize tableIntervalPlace interval e)
+    ∙ put-behind 2 head (put 2 t tableIntervalPlace interval) headSize tableIndexPlace index e
     ∙ ap (λ (l : List ℕ). head ++ l) (table-stored i x interval index history)
 
 -- THE LAW of writing: the fields of the first half and the table's two numbers are all that is stored.

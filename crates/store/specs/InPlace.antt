@@ -1,6 +1,6 @@
 -- Soundness as tests on the record's bytes in place, with no second copy of it. They say the same as `sound` (proofs/InPlaceLaws.antt).
-use mathlib.Core.Bool.{Bool, true, false, _&&_, _||_}
-use Prim.Native.Nat.{ℕ, _+_}
+use mathlib.Core.Bool.{Bool, true, _&&_, _||_}
+use Prim.Native.Nat.{ℕ, _+_, _-_}
 use mathlib.Core.List.{List, [], _∷_}
 use lib.ListN.{length}
 use lib.Dec.{eqb, leb}
@@ -8,6 +8,7 @@ use Rattle.wire.specs.Numbers.{get}
 use Rattle.wire.specs.Parts.{part}
 use Rattle.wire.specs.Bytes.{allZero}
 use Rattle.model.specs.Sizes.{historySize}
+use Rattle.model.specs.Temperature.{tableVersions, tableLimitsPlace, tableLimits, tableZerosPlace, tableSizePlace}
 use Rattle.store.specs.Areas.{recordSize, headSize}
 use Rattle.store.specs.Record.{slotAt, decode}
 use Rattle.store.specs.Sound.{deviceSound}
@@ -37,9 +38,9 @@ slotNamed r i =
 -- the fixed bytes of a temperature table that stands at a place of a run
 unfoldable pub tableFixed : List ℕ → ℕ → Bool
 tableFixed run at =
-    eqb (get 4 run at) 0x00010002
-    && eqb (get 4 run (at + 6)) 0xF605463C
-    && (allZero (part run (at + 10) 20) && eqb (get 2 run (at + 30)) historySize)
+    eqb (get 4 run at) tableVersions
+    && eqb (get 4 run (at + tableLimitsPlace)) tableLimits
+    && (allZero (part run (at + tableZerosPlace) (tableSizePlace - tableZerosPlace)) && eqb (get 2 run (at + tableSizePlace)) historySize)
 
 unfoldable pub soundInPlace : List ℕ → Bool
 soundInPlace r =

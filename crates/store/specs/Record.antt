@@ -1,5 +1,5 @@
 -- The device record: the device and the four slots' stages as 1,024 bytes, and what such bytes say.
-use mathlib.Core.Bool.{Bool, true, false}
+use mathlib.Core.Bool.{Bool}
 use Prim.Native.Nat.{ℕ, _+_, _*_}
 use mathlib.Core.List.{List, [], _∷_, _++_}
 use lib.ListN.{getD}
@@ -10,7 +10,7 @@ use Rattle.wire.specs.Parts.{part}
 use Rattle.wire.specs.Layout.{Field, form}
 use Rattle.model.specs.Sizes.{historySize}
 use Rattle.model.specs.Device.{Fill, idle, running, Transfer, none, table, fillData, Command, Settings, Thermal, Device}
-use Rattle.model.specs.Temperature.{tableHeadSize, tableBytes}
+use Rattle.model.specs.Temperature.{tableIntervalPlace, tableIndexPlace, tableHeadSize, tableBytes}
 use Rattle.store.specs.Areas.{headSize}
 
 -- A slot is empty, held or answered.
@@ -113,7 +113,7 @@ headFields c =
 
 -- the two numbers of the second half that change: the temperature table's interval and index
 abbrev pub tableNumbers : ℕ → ℕ → List Field
-tableNumbers interval index = (headSize + 4, 2, interval) ∷ (headSize + 32, 2, index) ∷ []
+tableNumbers interval index = (headSize + tableIntervalPlace, 2, interval) ∷ (headSize + tableIndexPlace, 2, index) ∷ []
 
 -- The second half is the temperature table: its interval is feature 3's state, its index and history are the device's.
 unfoldable pub encode : Contents → List ℕ
@@ -164,7 +164,7 @@ decode r =
                   writeTimer = get 2 r 28;
                   writeCache = record { state = get 2 r 30; persistent = flagOf (get 1 r 34) };
                   reordering = record { state = get 2 r 32; persistent = flagOf (get 1 r 35) };
-                  logInterval = record { state = get 2 r (headSize + 4); persistent = flagOf (get 1 r 36) };
+                  logInterval = record { state = get 2 r (headSize + tableIntervalPlace); persistent = flagOf (get 1 r 36) };
                 };
             thermal =
                 record {
@@ -172,7 +172,7 @@ decode r =
                   cycleMaximum = get 1 r 41;
                   lifeMaximum = get 1 r 42;
                   history = part r (headSize + tableHeadSize) historySize;
-                  index = get 2 r (headSize + 32);
+                  index = get 2 r (headSize + tableIndexPlace);
                   minutes = get 2 r 38;
                 };
           };

@@ -1,11 +1,11 @@
 -- Laws of tests and of lists of checks.
 use mathlib.Core.Path.{_≡_, refl, sym, ap, _∙_}
-use mathlib.Core.Bool.{Bool, true, false, _&&_}
+use mathlib.Core.Bool.{Bool, true, false, _&&_, not}
 use Prim.Native.Nat.{ℕ, zero, suc, _≤_, _<_}
 use native.Mathlib.Omega.{arith}
 use native.Mathlib.Decide.{decLt}
 use mathlib.Core.List.{List, [], _∷_, _++_}
-use borrow.Author.Tests.{leb-true, le-leb}
+use borrow.Author.Tests.{not-true, not-false, leb-true, le-leb}
 use lib.Dec.{leb}
 use Rattle.wire.specs.Choice.{if_then_else_, bit, between, Check, firstFailed, ifPassed}
 
@@ -19,6 +19,13 @@ and-right false b h = cc
 
 pub and-both : (a b : Bool) → a ≡ true → b ≡ true → (a && b) ≡ true
 and-both a b p q = rw (p, q)
+
+-- what the callee ensures of a test, where `if !test() { return .. }` was left, and where it was taken
+pub passed : {t b : Bool} → t ≡ b → not t ≡ false → b ≡ true
+passed {t} e h = sym e ∙ not-false t h
+
+pub failed : {t b : Bool} → t ≡ b → not t ≡ true → b ≡ false
+failed {t} e h = sym e ∙ not-true t h
 
 -- && groups to the left: a && b && c is (a && b) && c
 pub and-three : (a b c : Bool) → (a && b && c) ≡ true → (a ≡ true) × (b ≡ true) × (c ≡ true)

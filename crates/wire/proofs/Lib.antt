@@ -6,4 +6,3 @@ pub mod LayoutLaws
 pub mod BytesLaws
 pub mod FormUnique
 pub mod WithinLaws
-pub mod RunLaws

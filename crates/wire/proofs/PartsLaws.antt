@@ -73,6 +73,13 @@ get-part k l b n i h =
     regroup : (a b c : ℕ) → a + (b + c) ≡ a + b + c
     regroup a b c = omega arith
 
+-- a number read at its place in the run is read from the part
+pub number-of : (k : ℕ) (l : List ℕ) (at n i : ℕ) {v : ℕ} → i + k ≤ n → v ≡ get k l (at + i) → get k (part l at n) i ≡ v
+number-of k l at n i h e = get-part k l at n i h ∙ sym e
+
+pub number-first : (k : ℕ) (l : List ℕ) (at n : ℕ) {v : ℕ} → k ≤ n → v ≡ get k l at → get k (part l at n) 0 ≡ v
+number-first k l at n h e = number-of k l at n 0 (omega arith) (rw (add-zero at) e)
+
 set-part : (l : List ℕ) (b n i a : ℕ) → i < n → part (set l (b + i) a) b n ≡ set (part l b n) i a
 set-part l b n i a h = ap (take n) (drop-set-add b l i a) ∙ take-set-lt n (drop b l) i a h
 

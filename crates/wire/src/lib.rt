@@ -1,6 +1,5 @@
-// Bytes in runs: numbers read and stored (number.rt), and runs copied, set, compared and repeated (run.rt). See specs/.
+// Numbers in runs of bytes, read and stored. See specs/ for the fields and parts of a run.
 mod number;
-mod run;
 
 pub use number::put_u8;
 pub use number::put_u16;
@@ -10,10 +9,3 @@ pub use number::u8_at;
 pub use number::u16_at;
 pub use number::u32_at;
 pub use number::u64_at;
-pub use run::copy_part;
-pub use run::copy_within;
-pub use run::is_zero;
-pub use run::repeat_within;
-pub use run::same_part;
-pub use run::set_part;
-pub use run::zero_part;

@@ -7,12 +7,13 @@ use lib.ListN.{length}
 use lib.Seq.{sets, length-sets, take-all}
 use Rattle.wire.specs.Numbers.{le, put, get}
 use Rattle.wire.specs.Parts.{zeros}
-use Rattle.wire.specs.Layout.{Field, form}
+use Rattle.wire.specs.Layout.{Field, stores, form}
 use Rattle.wire.specs.Bytes.{allZero}
 use Rattle.wire.proofs.PartsLaws.{part-same}
 use Rattle.wire.proofs.LayoutLaws.{length-form}
 use Rattle.wire.proofs.WithinLaws.{sets-then, form-within}
-use Rattle.model.specs.Temperature.{tableFields, tableHeadSize, tableBytes, emptyHistory}
+use Rattle.model.specs.Sizes.{historySize}
+use Rattle.model.specs.Temperature.{tableVersions, tableLimitsPlace, tableLimits, tableSizePlace, tableHeadSize, tableFields, tableBytes, emptyHistory}
 use Rattle.store.specs.Areas.{recordSize, headSize}
 use Rattle.store.specs.InPlace.{tableFixed}
 use Rattle.record.specs.Meaning.{historyOf}
@@ -21,7 +22,7 @@ use Rattle.writing.specs.Blank.{blankRecord}
 
 -- the table's fixed numbers, by their places in the record
 abbrev fixedFields : List Field
-fixedFields = (512, 4, 0x00010002) ∷ (518, 4, 0xF605463C) ∷ (542, 2, 478) ∷ []
+fixedFields = (headSize, 4, tableVersions) ∷ (headSize + tableLimitsPlace, 4, tableLimits) ∷ (headSize + tableSizePlace, 2, historySize) ∷ []
 
 -- the record in front of the history
 abbrev front : List ℕ
@@ -49,7 +50,7 @@ blank-history = refl
 
 -- THE LAW of a record made anew
 pub blank-stored : (r : List ℕ) → length r ≡ recordSize
-    → sets (put 2 (put 4 (put 4 (sets r 0 (zeros 546)) 512 0x00010002) 518 0xF605463C) 542 478) (headSize + tableHeadSize) emptyHistory ≡ blankRecord
+    → sets (stores fixedFields (sets r 0 (zeros (headSize + tableHeadSize)))) (headSize + tableHeadSize) emptyHistory ≡ blankRecord
 blank-stored r size =
     ap (λ (l : List ℕ). sets l (headSize + tableHeadSize) emptyHistory) (form-within (headSize + tableHeadSize) fixedFields r 0 refl)
     ∙ sets-then front emptyHistory r 0 (headSize + tableHeadSize) (length-form (headSize + tableHeadSize) fixedFields)

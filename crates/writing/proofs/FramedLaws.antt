@@ -1,7 +1,7 @@
 -- Which records are framed: the sound ones, those that are written, and those with other readings in their history.
 use mathlib.Core.Path.{_≡_, refl, ap₂, _∙_}
 use mathlib.Core.Bool.{Bool, true, _&&_}
-use Prim.Native.Nat.{ℕ, _+_, _≤_}
+use Prim.Native.Nat.{ℕ, _+_, _-_, _≤_}
 use native.Mathlib.Omega.{arith}
 use mathlib.Core.List.{List, [], _∷_}
 use lib.ListN.{length, set}
@@ -11,7 +11,7 @@ use Rattle.wire.proofs.NumbersLaws.{get-sets-before}
 use Rattle.wire.proofs.PartsLaws.{length-part, part-before}
 use Rattle.wire.proofs.BytesLaws.{bytes-part}
 use Rattle.model.specs.Sizes.{historySize}
-use Rattle.model.specs.Temperature.{tableHeadSize, emptyHistory}
+use Rattle.model.specs.Temperature.{tableLimitsPlace, tableZerosPlace, tableSizePlace, tableHeadSize, emptyHistory}
 use Rattle.store.specs.Areas.{recordSize, headSize}
 use Rattle.store.specs.Record.{Contents, encode}
 use Rattle.store.specs.Sound.{sound}
@@ -50,9 +50,9 @@ unfolding tableFixed
 fixed-kept r at vs h =
     rw (
       get-sets-before 4 r headSize at vs (omega arith),
-      get-sets-before 4 r (headSize + 6) at vs (omega arith),
-      part-before vs r at (headSize + 10) 20 (omega arith),
-      get-sets-before 2 r (headSize + 30) at vs (omega arith),
+      get-sets-before 4 r (headSize + tableLimitsPlace) at vs (omega arith),
+      part-before vs r at (headSize + tableZerosPlace) (tableSizePlace - tableZerosPlace) (omega arith),
+      get-sets-before 2 r (headSize + tableSizePlace) at vs (omega arith),
     )
 
 pub history-stored : (r : List ℕ) (at : ℕ) (vs : List ℕ) → headSize + tableHeadSize ≤ at → Framed r → Framed (sets r at vs)

@@ -1,5 +1,8 @@
 // A record made anew, whatever stood there: zeros, and the temperature table of an empty history.
 use crate::history::empty_history;
+use sizes::HISTORY_U16;
+use sizes::TABLE_AT;
+use sizes::table;
 ghost use mathlib.Core.Path.{_≡_};
 ghost use lib.ListN.{length};
 ghost use Rattle.store.specs.Areas.{recordSize};
@@ -9,9 +12,9 @@ pub fn frame(r: &mut [u8])
     requires { ⌜ length (now r) ≡ recordSize ⌝ }
     ensures { λ _. ⌜ now (r .exit) ≡ blankRecord ⌝ }
 {
-    wire::zero_part(r, 0, 546);
-    wire::put_u32(r, 512, 0x00010002);
-    wire::put_u32(r, 518, 0xF605463C);
-    wire::put_u16(r, 542, 478);
+    runs::zero_part(r, 0, table::RECORD_HISTORY_AT);
+    wire::put_u32(r, TABLE_AT, table::VERSIONS);
+    wire::put_u32(r, table::RECORD_LIMITS_AT, table::LIMITS);
+    wire::put_u16(r, table::RECORD_SIZE_AT, HISTORY_U16);
     empty_history(r);
 }

@@ -1,4 +1,7 @@
 // The history in the record's bytes: one reading logged, and all of them removed.
+use sizes::HISTORY;
+use sizes::MISSING;
+use sizes::table;
 ghost use mathlib.Core.Path.{_≡_};
 ghost use Prim.Native.Nat.{_+_, _<_};
 ghost use lib.ListN.{length, set};
@@ -12,7 +15,7 @@ pub fn log_reading(r: &mut [u8], index: usize, reading: u8)
     requires { ⌜ (length (now r) ≡ recordSize) × (index < historySize) ⌝ }
     ensures { λ _. ⌜ now (r .exit) ≡ set (now (r .entry)) (headSize + tableHeadSize + index) reading ⌝ }
 {
-    r[546 + index] = reading;
+    r[table::RECORD_HISTORY_AT + index] = reading;
 }
 
 // "Empty history is all 80h"
@@ -20,5 +23,5 @@ pub fn empty_history(r: &mut [u8])
     requires { ⌜ length (now r) ≡ recordSize ⌝ }
     ensures { λ _. ⌜ now (r .exit) ≡ sets (now (r .entry)) (headSize + tableHeadSize) emptyHistory ⌝ }
 {
-    wire::set_part(r, 546, 478, 0x80);
+    runs::set_part(r, table::RECORD_HISTORY_AT, HISTORY, MISSING);
 }

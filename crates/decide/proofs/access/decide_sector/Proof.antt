@@ -1,5 +1,5 @@
 -- `decide::access::decide_sector` meets its contract.
-use Rattle.command.specs.Meaning.{asDirection}
+use Rattle.record.specs.Meaning.{asDirection}
 use Rattle.decide.proofs.AccessLaws.{access-refused, access-done}
 use borrow.Author.Needs.{needs}
 use Rattle.decide.proofs.access.decide_sector.Statement.{statement}

@@ -6,7 +6,7 @@ use native.Mathlib.Omega.{arith}
 use lib.ListN.{length}
 use lib.Seq.{sets, length-sets}
 use Rattle.wire.specs.Parts.{repeated}
-use Rattle.wire.proofs.RunLaws.{repeat-more}
+use Rattle.runs.proofs.RunLaws.{repeat-more}
 use Rattle.wire.proofs.PartsLaws.{length-part}
 use Rattle.store.specs.Store.{fillSectorOf}
 use Rattle.fill.proofs.steps.write_sectors.Statement.{statement}

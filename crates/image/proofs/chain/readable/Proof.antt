@@ -1,5 +1,5 @@
 -- `image::chain::readable` meets its contract.
-use mathlib.Core.Path.{_∙_}
+use mathlib.Core.Path.{sym, _∙_}
 use native.Mathlib.Omega.{arith}
 use Rattle.image.proofs.ChainLaws.{readable-uneven, readable-long, readable-empty, readable-chain}
 use borrow.Author.Needs.{needs}
@@ -15,11 +15,11 @@ returns-2 c = readable-long _ _ (c .before .if1 .left) (c .if2 .taken)
 returns-3 : tie.Need-returns-3
 returns-3 c = readable-empty _ _ (c .if3 .taken)
 
-sub-u64-at : tie.Need-sub-u64-at
-sub-u64-at c = search needs
+sub-native-at : tie.Need-sub-native-at
+sub-native-at c = search needs
 
-u64-at-requires : tie.Need-u64-at-requires
-u64-at-requires c κs = search needs
+native-at-requires : tie.Need-native-at-requires
+native-at-requires c κs = search needs
 
 sub-chain-holds : tie.Need-sub-chain-holds
 sub-chain-holds c = search needs
@@ -33,7 +33,8 @@ chain-holds-requires c κs = search needs
 returns-4 : tie.Need-returns-4
 returns-4 c =
     let some = c .before .before .before .if3 .left in
-    c .chain-holds .ensures ∙ rw (c .before .before .u64-at .ensures) (readable-chain _ _ (c .before .before .before .before .before .if1 .left) (c .before .before .before .before .if2 .left) (omega arith))
+    readable-chain _ _ (c .before .before .before .before .before .if1 .left) (c .before .before .before .before .if2 .left) (omega arith) _
+    (λ latest e. c .chain-holds .ensures latest (e ∙ sym (c .before .before .native-at .ensures)))
 
 pub readable-spec : {M : Type 1} → statement M
 readable-spec =
@@ -42,8 +43,8 @@ readable-spec =
     returns
     returns-2
     returns-3
-    sub-u64-at
-    u64-at-requires
+    sub-native-at
+    native-at-requires
     sub-chain-holds
     cast-chain-holds
     chain-holds-requires

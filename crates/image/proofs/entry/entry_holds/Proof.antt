@@ -11,20 +11,20 @@ sub-body-holds c = search needs
 body-holds-requires : tie.Need-body-holds-requires
 body-holds-requires c κs = search needs
 
-sub-u64-at : tie.Need-sub-u64-at
-sub-u64-at c = search needs
+sub-alike : tie.Need-sub-alike
+sub-alike c = search needs
 
-u64-at-requires : tie.Need-u64-at-requires
-u64-at-requires c κs = search needs
+alike-requires : tie.Need-alike-requires
+alike-requires c κs = search needs
 
 trailer-holds-requires : tie.Need-trailer-holds-requires
 trailer-holds-requires c κs = search needs
 
 returns : tie.Need-returns
-returns c =
+returns c latest e =
     let a = c .before .before .before .before .args in
-    rw (c .before .before .body-holds .ensures, c .before .u64-at .ensures, c .trailer-holds .ensures)
-    (entry-in-place (a .native) (a .image .now) (a .at) (a .number) (λ i. omega (arith, c .before .before .before .shared-slice-known .given i)) (omega arith) (omega arith) (omega arith) (omega arith))
+    rw (c .before .before .body-holds .ensures, c .before .alike .ensures latest e, c .trailer-holds .ensures)
+    (entry-in-place latest (a .image .now) (a .at) (a .number) (λ i. omega (arith, c .before .before .before .shared-slice-known .given i)) (omega arith) (omega arith) (omega arith) (omega arith))
 
 pub entry-holds-spec : {M : Type 1} → statement M
 entry-holds-spec =
@@ -32,7 +32,7 @@ entry-holds-spec =
     (tie.spec
     sub-body-holds
     body-holds-requires
-    sub-u64-at
-    u64-at-requires
+    sub-alike
+    alike-requires
     trailer-holds-requires
     returns)

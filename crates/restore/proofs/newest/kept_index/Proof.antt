@@ -1,7 +1,7 @@
 -- `restore::newest::kept_index` meets its contract.
 use mathlib.Core.Path.{sym, _∙_}
 use borrow.Author.Tests.{eq-eqb, ne-eqb}
-use Rattle.image.specs.InPlace.{savedAt}
+use Rattle.model.specs.Image.{savedAt}
 use borrow.Author.Needs.{needs}
 use Rattle.restore.proofs.newest.kept_index.Statement.{statement}
 use Rattle.restore.proofs.newest.kept_index.Tie as tie

@@ -40,7 +40,7 @@ returns-2 : tie.Need-returns-2
 returns-2 c =
     let a = c .before .before .before .before .before .before .before .args in
     c .before .before .restore-entry .ensures
-    ∙ ap (λ (s : Saved). encode (restoredContents s)) (restored-newest (a .native) (a .image .now) (a .used) (λ i. omega (arith, c .before .before .before .before .before .shared-slice-known .given i)) (c .before .before .before .before .before .before .before .pre .1) (c .before .before .before .before .if1 .left))
+    ∙ ap (λ (s : Saved). encode (restoredContents s)) (restored-newest (a .native) (a .image .now) (a .used) (c .before .before .before .before .before .before .before .pre .1) (c .before .before .before .before .if1 .left))
 
 pub put-restored-spec : {M : Type 1} → statement M
 put-restored-spec =

@@ -2,10 +2,9 @@
 use mathlib.Core.Path.{ap, _∙_}
 use mathlib.Core.List.{List}
 use Prim.Native.Nat.{ℕ}
-use Rattle.model.specs.Image.{powerOnThermal}
+use Rattle.model.specs.Image.{savedAt, powerOnThermal}
 use Rattle.store.specs.Record.{encode}
 use Rattle.record.specs.Meaning.{stagesOf, asDevice, asContents}
-use Rattle.image.specs.InPlace.{savedAt}
 use Rattle.restore.proofs.RestoreLaws.{history-after, history-kept, restored-encoded}
 use borrow.Author.Needs.{needs}
 use Rattle.restore.proofs.newest.restore_entry.Statement.{statement}

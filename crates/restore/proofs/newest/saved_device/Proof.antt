@@ -2,17 +2,20 @@
 use mathlib.Core.Path.{ap}
 use Prim.Native.Nat.{ℕ}
 use lib.Dec.{eqb}
-use Rattle.image.specs.InPlace.{savedAt}
+use Rattle.model.specs.Image.{savedAt}
 use Rattle.restore.proofs.RestoreLaws.{index-kept}
 use borrow.Author.Needs.{needs}
 use Rattle.restore.proofs.newest.saved_device.Statement.{statement}
 use Rattle.restore.proofs.newest.saved_device.Tie as tie
 
+add-u64-at : tie.Need-add-u64-at
+add-u64-at c = search needs
+
 u64-at-requires : tie.Need-u64-at-requires
 u64-at-requires c κs = search needs
 
-add-u64-at : tie.Need-add-u64-at
-add-u64-at c = search needs
+add-u64-at-2 : tie.Need-add-u64-at-2
+add-u64-at-2 c = search needs
 
 u64-at-requires-2 : tie.Need-u64-at-requires-2
 u64-at-requires-2 c κs = search needs
@@ -53,8 +56,9 @@ pub saved-device-spec : {M : Type 1} → statement M
 saved-device-spec =
     tie.close
     (tie.spec
-    u64-at-requires
     add-u64-at
+    u64-at-requires
+    add-u64-at-2
     u64-at-requires-2
     add-u8-at
     u8-at-requires

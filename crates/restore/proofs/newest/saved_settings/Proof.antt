@@ -1,5 +1,5 @@
 -- `restore::newest::saved_settings` meets its contract.
-use Rattle.image.specs.InPlace.{savedAt}
+use Rattle.model.specs.Image.{savedAt}
 use borrow.Author.Needs.{needs}
 use Rattle.restore.proofs.newest.saved_settings.Statement.{statement}
 use Rattle.restore.proofs.newest.saved_settings.Tie as tie

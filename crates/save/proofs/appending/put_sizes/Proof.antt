@@ -1,5 +1,6 @@
 -- `save::appending::put_sizes` meets its contract.
-use Rattle.save.proofs.SaveLaws.{sizes-stored}
+use Rattle.model.specs.Image.{savedFrom}
+use Rattle.store.specs.Record.{decode}
 use borrow.Author.Needs.{needs}
 use Rattle.save.proofs.appending.put_sizes.Statement.{statement}
 use Rattle.save.proofs.appending.put_sizes.Tie as tie
@@ -7,14 +8,17 @@ use Rattle.save.proofs.appending.put_sizes.Tie as tie
 zero-part-requires : tie.Need-zero-part-requires
 zero-part-requires c κs = search needs
 
+add-put-u64 : tie.Need-add-put-u64
+add-put-u64 c = search needs
+
 u64-at-requires : tie.Need-u64-at-requires
 u64-at-requires c κs = search needs
 
 put-u64-requires : tie.Need-put-u64-requires
 put-u64-requires c κs = search needs
 
-add-put-u64 : tie.Need-add-put-u64
-add-put-u64 c = search needs
+add-put-u64-2 : tie.Need-add-put-u64-2
+add-put-u64-2 c = search needs
 
 u64-at-requires-2 : tie.Need-u64-at-requires-2
 u64-at-requires-2 c κs = search needs
@@ -44,19 +48,18 @@ same-length : tie.Need-same-length
 same-length c = search needs
 
 returns : tie.Need-returns
-returns c =
-    let a = c .before .before .before .before .before .before .before .before .before .before .before .before .before .before .before .before .before .before .before .before .before .before .before .before .before .before .args in
-    rw (c .before .before .put-u82 .ensures, c .before .before .before .u8-at .ensures, c .before .before .before .before .before .before .before .put-u8 .ensures, c .before .before .before .before .before .before .before .before .flag-bit .ensures .0, c .before .before .before .before .before .before .before .before .before .before .before .before .put-u642 .ensures, c .before .before .before .before .before .before .before .before .before .before .before .before .before .u64-at2 .ensures, c .before .before .before .before .before .before .before .before .before .before .before .before .before .before .before .before .before .put-u64 .ensures, c .before .before .before .before .before .before .before .before .before .before .before .before .before .before .before .before .before .before .u64-at .ensures, c .before .before .before .before .before .before .before .before .before .before .before .before .before .before .before .before .before .before .before .before .before .before .zero-part .ensures)
-    (sizes-stored (a .image .now) (a .at) (a .r .now))
+unfolding savedFrom decode
+returns c = rw (c .before .before .put-u82 .ensures, c .before .before .before .u8-at .ensures, c .before .before .before .before .before .before .before .put-u8 .ensures, c .before .before .before .before .before .before .before .before .flag-bit .ensures .0, c .before .before .before .before .before .before .before .before .before .before .before .before .put-u642 .ensures, c .before .before .before .before .before .before .before .before .before .before .before .before .before .u64-at2 .ensures, c .before .before .before .before .before .before .before .before .before .before .before .before .before .before .before .before .before .put-u64 .ensures, c .before .before .before .before .before .before .before .before .before .before .before .before .before .before .before .before .before .before .u64-at .ensures, c .before .before .before .before .before .before .before .before .before .before .before .before .before .before .before .before .before .before .before .before .before .before .zero-part .ensures)
 
 pub put-sizes-spec : {M : Type 1} → statement M
 put-sizes-spec =
     tie.close
     (tie.spec
     zero-part-requires
+    add-put-u64
     u64-at-requires
     put-u64-requires
-    add-put-u64
+    add-put-u64-2
     u64-at-requires-2
     put-u64-requires-2
     add-put-u8

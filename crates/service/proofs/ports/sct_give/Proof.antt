@@ -5,8 +5,8 @@ use native.Mathlib.Omega.{arith}
 use Rattle.wire.proofs.PartsLaws.{length-part, sets-whole}
 use Rattle.store.specs.Record.{empty}
 use Rattle.store.specs.Entries.{isAnswered}
-use Rattle.service.proofs.CheckLaws.{MailboxPassed, mailbox-passed, sound-stage}
-use Rattle.service.proofs.StepLaws.{give-refused, give-done}
+use Rattle.checks.proofs.CheckLaws.{MailboxPassed, mailbox-passed}
+use Rattle.service.proofs.StepLaws.{sound-stage, give-refused, give-done}
 use borrow.Author.Needs.{needs}
 use Rattle.service.proofs.ports.sct_give.Statement.{statement}
 use Rattle.service.proofs.ports.sct_give.Tie as tie

@@ -5,7 +5,7 @@ use native.Mathlib.Omega.{arith}
 use lib.ListN.{length-take}
 use Rattle.wire.specs.Bytes.{Bytes}
 use Rattle.model.specs.Sizes.{portCount}
-use Rattle.service.proofs.CheckLaws.{DiskPassed, serve-passed}
+use Rattle.checks.proofs.CheckLaws.{DiskPassed, serve-passed}
 use Rattle.service.proofs.StepLaws.{serve-refused, serve-done}
 use Rattle.service.proofs.VisibleLaws.{Seen, seen-part, serve-record, serve-area, serve-disk}
 use borrow.Author.Needs.{needs}

@@ -8,8 +8,8 @@ use Rattle.wire.proofs.PartsLaws.{part-whole}
 use Rattle.store.specs.Areas.{slotPlace}
 use Rattle.store.specs.Record.{held}
 use Rattle.store.specs.Entries.{isEmpty}
-use Rattle.service.proofs.CheckLaws.{MailboxPassed, mailbox-passed, sound-stage}
-use Rattle.service.proofs.StepLaws.{take-refused, take-done}
+use Rattle.checks.proofs.CheckLaws.{MailboxPassed, mailbox-passed}
+use Rattle.service.proofs.StepLaws.{sound-stage, take-refused, take-done}
 use borrow.Author.Needs.{needs}
 use Rattle.service.proofs.ports.sct_take.Statement.{statement}
 use Rattle.service.proofs.ports.sct_take.Tie as tie

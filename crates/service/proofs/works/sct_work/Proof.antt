@@ -2,7 +2,7 @@
 use mathlib.Core.Path.{refl, ap, _∙_}
 use native.Mathlib.Omega.{arith}
 use lib.ListN.{length-take}
-use Rattle.service.proofs.CheckLaws.{DiskPassed, work-passed}
+use Rattle.checks.proofs.CheckLaws.{DiskPassed, work-passed}
 use Rattle.service.proofs.StepLaws.{work-refused, work-done}
 use Rattle.service.proofs.VisibleLaws.{Seen, seen-part, work-record, work-disk}
 use Rattle.service.specs.Result.{workResult}

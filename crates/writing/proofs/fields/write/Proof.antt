@@ -1,10 +1,8 @@
--- `writing::fields::write` meets its contract: all that is stored is what `written` asks.
+-- `writing::fields::write` meets its contract: `groups-stored` says what its stores leave.
 use Rattle.writing.proofs.FitsLaws.{groups-fit}
-use mathlib.Core.Path.{refl}
+use Rattle.writing.proofs.StoredLaws.{groups-stored}
 use native.Mathlib.Omega.{arith}
 use Rattle.wire.specs.Bytes.{Bytes}
-use Rattle.store.proofs.WrittenLaws.{written}
-use Rattle.record.specs.Meaning.{asContents, historyOf}
 use borrow.Author.Needs.{needs}
 use Rattle.writing.proofs.fields.write.Statement.{statement}
 use Rattle.writing.proofs.fields.write.Tie as tie
@@ -65,16 +63,9 @@ returns c =
     let d = entry .args .d in
     let good = entry .good in
     let bytes : Bytes r = λ i. omega (arith, at-slice-known .slice-known .given i) in (
-      rw (
-        at-put-table .put-table .ensures,
-        at-put-slots .put-slots .ensures .0,
-        at-put-fill .put-fill .ensures .0,
-        at-put-thermal .put-thermal .ensures .0,
-        at-put-settings .put-settings .ensures .0,
-        at-put-command .put-command .ensures .0,
-        at-put-sizes .put-sizes .ensures .0,
-      )
-          (written r (asContents d (historyOf r)) bytes (entry .pre .size) (entry .pre .spare) (entry .pre .fixed) refl),
+      groups-stored r d bytes (entry .pre) (at-put-sizes .put-sizes .ensures .0) (at-put-command .put-command .ensures .0)
+          (at-put-settings .put-settings .ensures .0) (at-put-thermal .put-thermal .ensures .0) (at-put-fill .put-fill .ensures .0)
+          (at-put-slots .put-slots .ensures .0) (at-put-table .put-table .ensures),
       record {
         head =
             groups-fit d (at-put-sizes .put-sizes .ensures .1) (at-put-command .put-command .ensures .1) (at-put-settings .put-settings .ensures .1)

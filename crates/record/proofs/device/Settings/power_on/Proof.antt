@@ -1,5 +1,4 @@
 -- `record::device::Settings::power_on` meets its contract.
-use Rattle.model.specs.Sizes.{powerOnTimer}
 use borrow.Author.Needs.{needs}
 use Rattle.record.proofs.device.Settings.power_on.Statement.{statement}
 use Rattle.record.proofs.device.Settings.power_on.Tie as tie
@@ -17,7 +16,8 @@ returns : tie.Need-returns
 returns c =
     let at-kept2 = c .before in
     let at-kept = at-kept2 .before in
-    λ i. record { readTimer = powerOnTimer; writeTimer = powerOnTimer; writeCache = (at-kept .kept .ensures) i; reordering = (at-kept2 .kept2 .ensures) i; logInterval = (c .kept3 .ensures) i }
+    let a = at-kept .before .args in
+    λ i. record { readTimer = a .read; writeTimer = a .write; writeCache = (at-kept .kept .ensures) i; reordering = (at-kept2 .kept2 .ensures) i; logInterval = (c .kept3 .ensures) i }
 
 pub power-on-spec : {M : Type 1} → statement M
 power-on-spec = tie.close (tie.spec kept-requires kept-requires-2 kept-requires-3 returns)

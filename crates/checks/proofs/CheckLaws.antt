@@ -1,0 +1,88 @@
+-- What the checks of take, serve, give and work say of the buffers when they pass.
+use mathlib.Core.Path.{_≡_, refl, sym, ap, _∙_}
+use mathlib.Core.Bool.{Bool, true, false}
+use mathlib.Core.List.{List, [], _∷_, _++_}
+use Prim.Native.Nat.{ℕ, _*_, _≤_, _<_}
+use native.Mathlib.Omega.{arith}
+use lib.ListN.{length}
+use borrow.Author.Tests.{eqb-true, ltb-true}
+use Rattle.wire.specs.Choice.{if_then_else_, Check, firstFailed, ifPassed}
+use Rattle.wire.specs.Bytes.{Bytes}
+use Rattle.wire.proofs.ChoiceLaws.{Numbered, passed-not, chosen-refusal, chosen-done, all-pass, pass-all}
+use Rattle.model.specs.Sizes.{sectorSize, nativeLimit, portCount, mailboxSize}
+use Rattle.store.specs.Areas.{recordSize, privateSize}
+use Rattle.store.specs.Record.{Stage, decode}
+use Rattle.store.specs.Sound.{sound}
+use Rattle.store.specs.Entries.{goodPort, isHeld, inStage, mailboxChecks, serveChecks, workChecks}
+use Rattle.store.proofs.SoundLaws.{sound-parts, sound-valid}
+
+-- "N ≤ 65,536"
+pub native-limit : (r : List ℕ) → Bytes r → sound r ≡ true → decode r .device .native ≤ nativeLimit
+native-limit r b s = sound-valid r b s .device .sizes .2
+
+-- "V ≤ N"
+pub visible-native : (r : List ℕ) → Bytes r → sound r ≡ true → decode r .device .visible ≤ decode r .device .native
+visible-native r b s = sound-valid r b s .device .sizes .1
+
+-- checks, then others: those decide where the first all pass
+pub first-then : (bound : ℕ) (cs ds : List Check) → Numbered bound cs → firstFailed (cs ++ ds) ≡ ifPassed (firstFailed cs) (firstFailed ds) (firstFailed cs)
+first-then bound [] ds n = refl
+first-then bound (c ∷ cs) ds n = go (c .0) (first-then bound cs ds (n .2))
+  where
+    go : (b : Bool) → firstFailed (cs ++ ds) ≡ ifPassed (firstFailed cs) (firstFailed ds) (firstFailed cs) → (if b then firstFailed (cs ++ ds) else c .1) ≡ ifPassed (if b then firstFailed cs else c .1) (firstFailed ds) (if b then firstFailed cs else c .1)
+    go true h = h
+    go false h = sym (passed-not (c .1) (firstFailed ds) (c .1) (λ z. omega (arith, n .0, z)))
+
+-- ---- what passed
+
+pub record MailboxPassed (r : List ℕ) (p : ℕ) (m a : List ℕ) : Type 0 where
+  pub isSound : sound r ≡ true
+  pub recordSized : length r ≡ recordSize
+  pub mailboxSized : length m ≡ mailboxSize
+  pub areaSized : length a ≡ privateSize
+  pub port : p < portCount
+
+pub mailbox-passed : (stage : Stage → Bool) (r : List ℕ) (p : ℕ) (m a : List ℕ) {n : ℕ} → n ≡ firstFailed (mailboxChecks stage r p m a) → n ≡ 0 → MailboxPassed r p m a
+mailbox-passed stage r p m a e z =
+    let all = all-pass 4 (mailboxChecks stage r p m a) (omega arith) (sym e ∙ z) in
+    record {
+      isSound = all .0;
+      recordSized = sound-parts r (all .0) .size;
+      mailboxSized = eqb-true (length m) mailboxSize (all .1 .0);
+      areaSized = eqb-true (length a) privateSize (all .1 .1 .0);
+      port = ltb-true p portCount (all .1 .1 .1 .0);
+    }
+
+pub record DiskPassed (r a disk : List ℕ) : Type 0 where
+  pub isSound : sound r ≡ true
+  pub areaSized : length a ≡ privateSize
+  pub diskSized : length disk ≡ sectorSize * decode r .device .native
+
+pub work-passed : (r a disk : List ℕ) {n : ℕ} → n ≡ firstFailed (workChecks r a disk) → n ≡ 0 → DiskPassed r a disk
+work-passed r a disk e z =
+    let all = all-pass 4 (workChecks r a disk) (omega arith) (sym e ∙ z) in
+    record {
+      isSound = all .0;
+      areaSized = eqb-true (length a) privateSize (all .1 .0);
+      diskSized = eqb-true (length disk) (sectorSize * decode r .device .native) (all .1 .1 .0);
+    }
+
+-- serve's checks are work's, then those of the slot ..
+module _ (r : List ℕ) (p : ℕ) (a disk : List ℕ) (n : ℕ) where
+  abbrev slotChecks : List Check
+  slotChecks = goodPort p ∷ inStage isHeld r p ∷ []
+
+  both : firstFailed (serveChecks r p a disk) ≡ ifPassed (firstFailed (workChecks r a disk)) (firstFailed slotChecks) (firstFailed (workChecks r a disk))
+  both = first-then 4 (workChecks r a disk) slotChecks (omega arith)
+
+  pub serve-first : n ≡ firstFailed (workChecks r a disk) → (n ≡ 0 → ⊥) → n ≡ firstFailed (serveChecks r p a disk)
+  serve-first e some = sym (both ∙ chosen-refusal n (firstFailed (workChecks r a disk)) (firstFailed slotChecks) (λ (k : ℕ). k) e some)
+
+  pub serve-second : n ≡ firstFailed (workChecks r a disk) → n ≡ 0 → firstFailed slotChecks ≡ firstFailed (serveChecks r p a disk)
+  serve-second e z = sym (both ∙ chosen-done n (firstFailed (workChecks r a disk)) (firstFailed slotChecks) (firstFailed (workChecks r a disk)) e z)
+
+-- .. so where they pass, work's do
+pub serve-passed : (r : List ℕ) (p : ℕ) (a disk : List ℕ) {n : ℕ} → n ≡ firstFailed (serveChecks r p a disk) → n ≡ 0 → DiskPassed r a disk × (p < portCount)
+serve-passed r p a disk e z =
+    let all = all-pass 4 (serveChecks r p a disk) (omega arith) (sym e ∙ z) in
+    (work-passed r a disk refl (pass-all (workChecks r a disk) (all .0, (all .1 .0, (all .1 .1 .0, tt)))), ltb-true p portCount (all .1 .1 .1 .0))

@@ -1,0 +1,2 @@
+-- What a step needs of its slot.
+pub mod Needed

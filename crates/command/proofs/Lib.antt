@@ -1,4 +1,0 @@
--- In reading order.
-pub mod TestLaws
-pub mod SlotLaws
-pub mod KeyReadLaws

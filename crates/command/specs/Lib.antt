@@ -1,2 +1,0 @@
--- What the enums of the code say.
-pub mod Meaning

@@ -1,0 +1,54 @@
+// Any request.
+use crate::access::decide_data;
+use crate::access::decide_sector;
+use crate::decision::Decision;
+use crate::decision::Sending;
+use crate::decision::answered;
+use crate::decision::sent;
+use crate::key_sector::decide_key;
+use record::Device;
+use request::Request;
+ghost use mathlib.Core.Path.{_≡_};
+ghost use mathlib.Core.List.{List};
+ghost use Prim.Native.Nat.{ℕ, _≤_, _<_};
+ghost use lib.ListN.{length};
+ghost use Rattle.model.specs.Sizes.{portCount};
+ghost use Rattle.model.specs.Registers.{refused};
+ghost use Rattle.model.specs.Fill.{interrupt};
+ghost use Rattle.model.specs.Decide.{decision, nothing, decideStatus, decideRequest};
+ghost use Rattle.store.specs.Areas.{privateSize};
+ghost use Rattle.store.specs.Store.{slotBytes};
+ghost use Rattle.request.specs.Meaning.{asRequest};
+ghost use Rattle.decide.specs.Meaning.{Decided};
+
+// "A refused status read under the lock answers 0012h and stores nothing."
+fn decide_status(d: Device) -> Decision
+    ensures { λ k. ⌜ ((m : List ℕ) → Decided m decideStatus d k) ⌝ }
+{
+    if d.locked {
+        return answered(d, reply::refused_with(0x0012));
+    }
+    sent(d, Sending::Status)
+}
+
+// "All else ..: Error 04h, stored code unchanged unless a fill was stopped."
+fn decide_other(d: Device) -> Decision
+    requires { ⌜ length (d .slots) ≡ portCount ⌝ }
+    ensures { λ k. ⌜ ((m : List ℕ) → Decided m (λ x. decision (interrupt x) (refused 0x04) nothing) d k) ⌝ }
+{
+    answered(control::interrupt(d), reply::refused(0x04))
+}
+
+// The request q that slot p of the private area holds, on the device d.
+pub fn decide(q: Request, area: &[u8], p: usize, d: Device) -> Decision
+    requires { ⌜ (length (now area) ≡ privateSize) × (p < portCount) × (length (d .slots) ≡ portCount) × (1 ≤ d .visible) ⌝ }
+    ensures { λ k. ⌜ Decided (slotBytes p (now (area .entry))) (decideRequest (asRequest q) (record { port = p }) (slotBytes p (now (area .entry)))) d k ⌝ }
+{
+    match q {
+        Request::Status => decide_status(d),
+        Request::Key => decide_key(area, p, d),
+        Request::Data(dir, count) => decide_data(d, p, dir, count),
+        Request::Sector(dir, count, lba) => decide_sector(d, dir, count, lba),
+        Request::Other => decide_other(d),
+    }
+}

@@ -1,0 +1,2 @@
+-- Laws of the steps with a saved image.
+pub mod ImageStepLaws

@@ -1,0 +1,69 @@
+-- `image_steps::power_on` meets its contract.
+use mathlib.Core.Path.{refl}
+use native.Mathlib.Omega.{arith}
+use Rattle.store.specs.Areas.{privateSize}
+use Rattle.wire.proofs.PartsLaws.{length-zeros, sets-whole}
+use Rattle.image_steps.proofs.ImageStepLaws.{power-on-passed, power-on-refused, power-on-done}
+use borrow.Author.Needs.{needs}
+use Rattle.image_steps.proofs.images.power_on.Statement.{statement}
+use Rattle.image_steps.proofs.images.power_on.Tie as tie
+
+power-on-refusal-requires : tie.Need-power-on-refusal-requires
+power-on-refusal-requires c κs = search needs
+
+returns : tie.Need-returns
+returns c =
+    let at-power-on-refusal = c .before in
+    let entry = at-power-on-refusal .before .before .before .before .before in
+    let a = entry .args in
+    rw (power-on-refused (a .device .now) (a .area .now) (a .disk .now) (a .image .now) (a .used) (at-power-on-refusal .power-on-refusal .result) (at-power-on-refusal .power-on-refusal .ensures (a .device .now) (a .area .now) (a .disk .now) refl refl refl) (c .if1 .taken)) (refl, (refl, refl))
+
+zero-part-requires : tie.Need-zero-part-requires
+zero-part-requires c κs =
+    let at-if1 = c .before in
+    let at-power-on-refusal = at-if1 .before in
+    let entry = at-power-on-refusal .before .before .before .before .before in
+    let a = entry .args in
+    let ok = power-on-passed (a .device .now) (a .area .now) (a .disk .now) (a .image .now) (a .used) (at-power-on-refusal .power-on-refusal .ensures (a .device .now) (a .area .now) (a .disk .now) refl refl refl) (at-if1 .if1 .left) in
+    omega (arith, ok .areaSized)
+
+put-restored-requires : tie.Need-put-restored-requires
+put-restored-requires c κs =
+    let at-before = c .before .before .before .before in
+    let at-if1 = at-before .before in
+    let at-power-on-refusal = at-if1 .before in
+    let entry = at-power-on-refusal .before .before .before .before .before in
+    let a = entry .args in
+    let ok = power-on-passed (a .device .now) (a .area .now) (a .disk .now) (a .image .now) (a .used) (at-power-on-refusal .power-on-refusal .ensures (a .device .now) (a .area .now) (a .disk .now) refl refl refl) (at-if1 .if1 .left) in
+    (ok .recordSized, ok .readable)
+
+same-length : tie.Need-same-length
+same-length c = search needs
+
+same-length-2 : tie.Need-same-length-2
+same-length-2 c = search needs
+
+returns-2 : tie.Need-returns-2
+returns-2 c =
+    let at-before = c .before in
+    let at-put-restored = at-before .before in
+    let at-zero-part = at-put-restored .before .before .before .before in
+    let at-if1 = at-zero-part .before .before in
+    let at-power-on-refusal = at-if1 .before in
+    let entry = at-power-on-refusal .before .before .before .before .before in
+    let a = entry .args in
+    let ok = power-on-passed (a .device .now) (a .area .now) (a .disk .now) (a .image .now) (a .used) (at-power-on-refusal .power-on-refusal .ensures (a .device .now) (a .area .now) (a .disk .now) refl refl refl) (at-if1 .if1 .left) in
+    rw (power-on-done (a .device .now) (a .area .now) (a .disk .now) (a .image .now) (a .used) (at-power-on-refusal .power-on-refusal .result) (at-power-on-refusal .power-on-refusal .ensures (a .device .now) (a .area .now) (a .disk .now) refl refl refl) (at-if1 .if1 .left))
+    (refl, (at-put-restored .put-restored .ensures, rw (at-zero-part .zero-part .ensures) (sets-whole _ (a .area .now) privateSize (length-zeros privateSize) (ok .areaSized))))
+
+pub power-on-spec : {M : Type 1} → statement M
+power-on-spec =
+    tie.close
+    (tie.spec
+    power-on-refusal-requires
+    returns
+    zero-part-requires
+    put-restored-requires
+    same-length
+    same-length-2
+    returns-2)

@@ -1,0 +1,43 @@
+-- `image_steps::save` meets its contract.
+use mathlib.Core.Path.{refl}
+use Rattle.image_steps.proofs.ImageStepLaws.{save-passed, save-refused, save-done}
+use borrow.Author.Needs.{needs}
+use Rattle.image_steps.proofs.images.save.Statement.{statement}
+use Rattle.image_steps.proofs.images.save.Tie as tie
+
+save-refusal-requires : tie.Need-save-refusal-requires
+save-refusal-requires c κs = search needs
+
+same-length : tie.Need-same-length
+same-length c = search needs
+
+returns : tie.Need-returns
+returns c =
+    let at-save-refusal = c .before in
+    let entry = at-save-refusal .before .before .before .before in
+    rw (save-refused (entry .args .device .now) (entry .args .image .now) (entry .args .used) (at-save-refusal .save-refusal .result) (at-save-refusal .save-refusal .ensures) (c .if1 .taken)) (refl, refl)
+
+put-entry-requires : tie.Need-put-entry-requires
+put-entry-requires c κs =
+    let at-if1 = c .before in
+    let at-save-refusal = at-if1 .before in
+    let entry = at-save-refusal .before .before .before .before in
+    let ok = save-passed (entry .args .device .now) (entry .args .image .now) (entry .args .used) (at-save-refusal .save-refusal .ensures) (at-if1 .if1 .left) in
+    (ok .isSound, (ok .room, ok .number))
+
+same-length-2 : tie.Need-same-length-2
+same-length-2 c = search needs
+
+returns-2 : tie.Need-returns-2
+returns-2 c =
+    let at-before = c .before in
+    let at-put-entry = at-before .before in
+    let at-if1 = at-put-entry .before .before in
+    let at-save-refusal = at-if1 .before in
+    let entry = at-save-refusal .before .before .before .before in
+    rw (save-done (entry .args .device .now) (entry .args .image .now) (entry .args .used) (at-save-refusal .save-refusal .result) (at-save-refusal .save-refusal .ensures) (at-if1 .if1 .left)) (refl, at-put-entry .put-entry .ensures)
+
+pub save-spec : {M : Type 1} → statement M
+save-spec =
+    tie.close
+    (tie.spec save-refusal-requires same-length returns put-entry-requires same-length-2 returns-2)

@@ -1,0 +1,83 @@
+// Saved images: save and power-on.
+use sizes::NATIVE_LIMIT;
+use sizes::PRIVATE;
+use sizes::RECORD;
+use sizes::SECTOR;
+ghost use mathlib.Core.Path.{_≡_};
+ghost use mathlib.Core.List.{List};
+ghost use Prim.Native.Nat.{ℕ};
+ghost use lib.ListN.{length};
+ghost use Rattle.wire.specs.Choice.{firstFailed};
+ghost use Rattle.model.specs.Image.{wholeSectors};
+ghost use Rattle.store.specs.Entries.{saveChecks, saveBytes, powerOnChecks, powerOnBytes};
+
+const MOST_SECTORS: usize = NATIVE_LIMIT as usize;
+
+// The checks of a save.
+fn save_refusal(device: &[u8], image: &[u8], used: usize) -> u32
+    ensures { λ n. ⌜ n ≡ firstFailed (saveChecks (now (device .entry)) (now (image .entry)) used) ⌝ }
+{
+    if !soundness::sound(device) {
+        return 4;
+    }
+    image::save_refusal(record::native_at(device), image, used)
+}
+
+// "A save adds one entry behind the used length; other bytes stay."
+pub fn save(device: &[u8], image: &mut [u8], used: u64) -> u32
+    ensures { λ n. ⌜ n ≡ saveBytes (now (device .entry)) (now (image .entry)) used .answer ⌝ }
+    ensures image { λ _. ⌜ now (image .exit) ≡ saveBytes (now (device .entry)) (now (image .entry)) used .image ⌝ }
+{
+    let at = used as usize;
+    let refusal = save_refusal(device, image, at);
+    if refusal != 0 {
+        return refusal;
+    }
+    save::put_entry(image, at, device);
+    0
+}
+
+// Whether a disk of this length is 1 to 65,536 whole sectors.
+fn is_whole(disk_len: usize) -> bool
+    ensures { λ r. ⌜ r ≡ wholeSectors «disk_len» ⌝ }
+{
+    (disk_len % SECTOR == 0) & ((1 <= disk_len / SECTOR) & (disk_len / SECTOR <= MOST_SECTORS))
+}
+
+// The checks of power-on. They see the sizes of record, private area and disk, not their bytes.
+fn power_on_refusal(
+    device_len: usize,
+    area_len: usize,
+    disk_len: usize,
+    image: &[u8],
+    used: usize,
+) -> u32
+    ensures { λ n. ⌜ ((r a sectors : List ℕ) → length r ≡ «device_len» → length a ≡ «area_len» → length sectors ≡ «disk_len» → n ≡ firstFailed (powerOnChecks r a sectors (now (image .entry)) used)) ⌝ }
+{
+    if device_len != RECORD {
+        return 2;
+    }
+    if area_len != PRIVATE {
+        return 2;
+    }
+    if !is_whole(disk_len) {
+        return 2;
+    }
+    image::read_refusal((disk_len / SECTOR) as u64, image, used)
+}
+
+// "Power-on from length 0 ..; otherwise the newest entry"; "private area all zeros"
+pub fn power_on(device: &mut [u8], area: &mut [u8], disk: &[u8], image: &[u8], used: u64) -> u32
+    ensures { λ n. ⌜ n ≡ powerOnBytes (now (device .entry)) (now (area .entry)) (now (disk .entry)) (now (image .entry)) used .answer ⌝ }
+    ensures device { λ _. ⌜ now (device .exit) ≡ powerOnBytes (now (device .entry)) (now (area .entry)) (now (disk .entry)) (now (image .entry)) used .recordArea ⌝ }
+    ensures area { λ _. ⌜ now (area .exit) ≡ powerOnBytes (now (device .entry)) (now (area .entry)) (now (disk .entry)) (now (image .entry)) used .privateArea ⌝ }
+{
+    let at = used as usize;
+    let refusal = power_on_refusal(device.len(), area.len(), disk.len(), image, at);
+    if refusal != 0 {
+        return refusal;
+    }
+    runs::zero_part(area, 0, PRIVATE);
+    restore::put_restored(device, (disk.len() / SECTOR) as u64, image, at);
+    0
+}

@@ -1,0 +1,92 @@
+-- `key::feature_key` meets its contract.
+use Rattle.wire.proofs.ChoiceLaws.{passed, failed}
+use borrow.Author.Tests.{eq-eqb, ne-eqb}
+use Rattle.model.specs.Key.{patternSector}
+use borrow.Author.Needs.{needs}
+use Rattle.key.proofs.key.feature_key.Statement.{statement}
+use Rattle.key.proofs.key.feature_key.Tie as tie
+
+between-requires : tie.Need-between-requires
+between-requires c κs = search needs
+
+returns : tie.Need-returns
+returns c = λ k f n s o. rw (f, failed (c .before .between .ensures) (c .if1 .taken))
+
+between-requires-2 : tie.Need-between-requires-2
+between-requires-2 c κs = search needs
+
+returns-2 : tie.Need-returns-2
+returns-2 c = λ k f n s o. rw (f, passed (c .before .before .before .between .ensures) (c .before .before .if1 .left), n, failed (c .before .between2 .ensures) (c .if2 .taken))
+
+feature-name-requires : tie.Need-feature-name-requires
+feature-name-requires c κs = search needs
+
+highest-state-requires : tie.Need-highest-state-requires
+highest-state-requires c κs = search needs
+
+between-requires-3 : tie.Need-between-requires-3
+between-requires-3 c κs = search needs
+
+returns-3 : tie.Need-returns-3
+returns-3 c = λ k f n s o.
+    rw (f, passed (c .before .before .before .before .before .before .before .before .between .ensures) (c .before .before .before .before .before .before .before .if1 .left), n, passed (c .before .before .before .before .before .before .between2 .ensures) (c .before .before .before .before .before .if2 .left), eq-eqb _ _ (c .before .before .before .if3 .taken), s, ← c .before .before .highest-state .ensures, failed (c .before .between3 .ensures) (c .if4 .taken))
+
+feature-set-requires : tie.Need-feature-set-requires
+feature-set-requires c κs = search needs
+
+returns-4 : tie.Need-returns-4
+returns-4 c = λ k f n s o.
+    let at-between3 = c .before .before in
+    let at-if3 = at-between3 .before .before in
+    let at-name = at-if3 .before in
+    let at-if2 = at-name .before in
+    let at-if1 = at-if2 .before .before in
+    rw (
+      f,
+      passed (at-if1 .before .between .ensures) (at-if1 .if1 .left),
+      n,
+      passed (at-if2 .before .between2 .ensures) (at-if2 .if2 .left),
+      eq-eqb _ _ (at-if3 .if3 .taken),
+      s,
+      ← at-between3 .before .highest-state .ensures,
+      passed (at-between3 .between3 .ensures) (c .before .if4 .left),
+      o,
+      ← at-name .feature-name .ensures,
+    )
+    (c .feature-set .ensures (patternSector k))
+
+feature-returned-requires : tie.Need-feature-returned-requires
+feature-returned-requires c κs = search needs
+
+returns-5 : tie.Need-returns-5
+returns-5 c = λ k f n s o.
+    let at-if3 = c .before in
+    let at-name = at-if3 .before in
+    let at-if2 = at-name .before in
+    let at-if1 = at-if2 .before .before in
+    rw (
+      c .feature-returned .ensures (patternSector k),
+      f,
+      passed (at-if1 .before .between .ensures) (at-if1 .if1 .left),
+      n,
+      passed (at-if2 .before .between2 .ensures) (at-if2 .if2 .left),
+      ne-eqb _ _ (at-if3 .if3 .left),
+      at-name .feature-name .ensures,
+    )
+
+pub feature-key-spec : {M : Type 1} → statement M
+feature-key-spec =
+    tie.close
+    (tie.spec
+    between-requires
+    returns
+    between-requires-2
+    returns-2
+    feature-name-requires
+    highest-state-requires
+    between-requires-3
+    returns-3
+    feature-set-requires
+    returns-4
+    feature-returned-requires
+    returns-5)

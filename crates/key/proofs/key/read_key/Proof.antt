@@ -1,0 +1,145 @@
+-- `key::read_key` meets its contract.
+use Rattle.wire.proofs.ChoiceLaws.{passed, failed}
+use mathlib.Core.Path.{_∙_, sym}
+use native.Mathlib.Omega.{arith}
+use Rattle.wire.specs.Parts.{part}
+use Rattle.wire.proofs.PartsLaws.{number-of, number-first}
+use Rattle.key.proofs.KeyReadLaws.{with-lock, with-action, with-fill, with-timer, with-feature, with-table}
+use borrow.Author.Needs.{needs}
+use Rattle.key.proofs.key.read_key.Statement.{statement}
+use Rattle.key.proofs.key.read_key.Tie as tie
+
+returns : tie.Need-returns
+returns c =
+    let a = c .before .before .args in
+    λ d lock size.
+    with-lock (a .locked) (a .visible) (part (a .area .now) (a .at) 512) d lock size (c .if1 .taken)
+
+u16-at-requires : tie.Need-u16-at-requires
+u16-at-requires c κs = search needs
+
+between-requires : tie.Need-between-requires
+between-requires c κs = search needs
+
+returns-2 : tie.Need-returns-2
+returns-2 c =
+    let a = c .before .before .before .before .before .args in
+    λ d lock size.
+    with-action (a .locked) (a .visible) (part (a .area .now) (a .at) 512) d lock size (c .before .before .before .if1 .left)
+    (rw (number-first 2 (a .area .now) (a .at) 512 (omega arith) (c .before .before .u16-at .ensures)) (failed (c .before .between .ensures) (c .if2 .taken)))
+
+add-u16-at : tie.Need-add-u16-at
+add-u16-at c = search needs
+
+u16-at-requires-2 : tie.Need-u16-at-requires-2
+u16-at-requires-2 c κs = search needs
+
+add-u64-at : tie.Need-add-u64-at
+add-u64-at c = search needs
+
+u64-at-requires : tie.Need-u64-at-requires
+u64-at-requires c κs = search needs
+
+add-u64-at-2 : tie.Need-add-u64-at-2
+add-u64-at-2 c = search needs
+
+u64-at-requires-2 : tie.Need-u64-at-requires-2
+u64-at-requires-2 c κs = search needs
+
+fill-key-requires : tie.Need-fill-key-requires
+fill-key-requires c κs = search needs
+
+returns-3 : tie.Need-returns-3
+returns-3 c =
+    let a = c .before .before .before .before .before .before .before .before .before .before .args in
+    let k = part (a .area .now) (a .at) 512 in
+    λ d lock size.
+    c .fill-key .ensures k (number-of 2 (a .area .now) (a .at) 512 2 (omega arith) (c .before .before .before .before .u16-at2 .ensures))
+    (number-of 8 (a .area .now) (a .at) 512 4 (omega arith) (c .before .before .u64-at .ensures))
+    (number-of 8 (a .area .now) (a .at) 512 12 (omega arith) (c .before .u64-at2 .ensures))
+    ∙ with-fill (a .locked) (a .visible) k d lock size (c .before .before .before .before .before .before .before .before .if1 .left) (number-first 2 (a .area .now) (a .at) 512 (omega arith) (c .before .before .before .before .before .before .before .u16-at .ensures) ∙ c .before .before .before .if3 .taken)
+
+add-u16-at-2 : tie.Need-add-u16-at-2
+add-u16-at-2 c = search needs
+
+u16-at-requires-3 : tie.Need-u16-at-requires-3
+u16-at-requires-3 c κs = search needs
+
+add-u16-at-3 : tie.Need-add-u16-at-3
+add-u16-at-3 c = search needs
+
+u16-at-requires-4 : tie.Need-u16-at-requires-4
+u16-at-requires-4 c κs = search needs
+
+timer-key-requires : tie.Need-timer-key-requires
+timer-key-requires c κs = search needs
+
+returns-4 : tie.Need-returns-4
+returns-4 c =
+    let a = c .before .before .before .before .before .before .before .before .before .before .before .args in
+    let k = part (a .area .now) (a .at) 512 in
+    λ d lock size.
+    c .timer-key .ensures k (number-of 2 (a .area .now) (a .at) 512 2 (omega arith) (c .before .before .before .before .before .u16-at2 .ensures)) (number-of 2 (a .area .now) (a .at) 512 4 (omega arith) (c .before .before .before .u16-at3 .ensures)) (number-of 2 (a .area .now) (a .at) 512 6 (omega arith) (c .before .before .u16-at4 .ensures))
+    ∙ with-timer (a .locked) (a .visible) k d lock size (c .before .before .before .before .before .before .before .before .before .if1 .left) (number-first 2 (a .area .now) (a .at) 512 (omega arith) (c .before .before .before .before .before .before .before .before .u16-at .ensures) ∙ c .before .if4 .taken)
+
+add-u16-at-4 : tie.Need-add-u16-at-4
+add-u16-at-4 c = search needs
+
+u16-at-requires-5 : tie.Need-u16-at-requires-5
+u16-at-requires-5 c κs = search needs
+
+feature-key-requires : tie.Need-feature-key-requires
+feature-key-requires c κs = search needs
+
+returns-5 : tie.Need-returns-5
+returns-5 c =
+    let a = c .before .before .before .before .before .before .before .before .before .before .before .before .before .args in
+    let k = part (a .area .now) (a .at) 512 in
+    λ d lock size.
+    c .feature-key .ensures k (number-of 2 (a .area .now) (a .at) 512 2 (omega arith) (c .before .before .before .before .before .before .before .u16-at2 .ensures)) (number-of 2 (a .area .now) (a .at) 512 4 (omega arith) (c .before .before .before .before .before .u16-at3 .ensures)) (number-of 2 (a .area .now) (a .at) 512 6 (omega arith) (c .before .before .before .before .u16-at4 .ensures))
+    (number-of 2 (a .area .now) (a .at) 512 8 (omega arith) (c .before .u16-at5 .ensures))
+    ∙ with-feature (a .locked) (a .visible) k d lock size (c .before .before .before .before .before .before .before .before .before .before .before .if1 .left) (number-first 2 (a .area .now) (a .at) 512 (omega arith) (c .before .before .before .before .before .before .before .before .before .before .u16-at .ensures) ∙ c .before .before .if5 .taken)
+
+table-key-requires : tie.Need-table-key-requires
+table-key-requires c κs = search needs
+
+returns-6 : tie.Need-returns-6
+returns-6 c =
+    let a = c .before .before .before .before .before .before .before .before .before .before .before .before .args in
+    let k = part (a .area .now) (a .at) 512 in
+    let w = number-first 2 (a .area .now) (a .at) 512 (omega arith) (c .before .before .before .before .before .before .before .before .before .u16-at .ensures) in
+    λ d lock size.
+    c .table-key .ensures k (number-of 2 (a .area .now) (a .at) 512 2 (omega arith) (c .before .before .before .before .before .before .u16-at2 .ensures)) (number-of 2 (a .area .now) (a .at) 512 4 (omega arith) (c .before .before .before .before .u16-at3 .ensures))
+    ∙ with-table (a .locked) (a .visible) k d lock size (c .before .before .before .before .before .before .before .before .before .before .if1 .left) (rw w (passed (c .before .before .before .before .before .before .before .before .between .ensures) (c .before .before .before .before .before .before .before .if2 .left)))
+    (λ e. c .before .before .before .before .before .if3 .left (sym w ∙ e))
+    (λ e. c .before .before .if4 .left (sym w ∙ e))
+    (λ e. c .before .if5 .left (sym w ∙ e))
+
+pub read-key-spec : {M : Type 1} → statement M
+read-key-spec =
+    tie.close
+    (tie.spec
+    returns
+    u16-at-requires
+    between-requires
+    returns-2
+    add-u16-at
+    u16-at-requires-2
+    add-u64-at
+    u64-at-requires
+    add-u64-at-2
+    u64-at-requires-2
+    fill-key-requires
+    returns-3
+    add-u16-at-2
+    u16-at-requires-3
+    add-u16-at-3
+    u16-at-requires-4
+    timer-key-requires
+    returns-4
+    add-u16-at-4
+    u16-at-requires-5
+    feature-key-requires
+    returns-5
+    table-key-requires
+    returns-6)

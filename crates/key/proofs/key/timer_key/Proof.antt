@@ -1,0 +1,58 @@
+-- `key::timer_key` meets its contract.
+use Rattle.wire.proofs.ChoiceLaws.{passed, failed}
+use borrow.Author.Tests.{eq-eqb, ne-eqb}
+use mathlib.Core.Path.{_∙_, sym}
+use Rattle.model.specs.Key.{setTimer, timerName}
+use Rattle.key.proofs.KeyReadLaws.{timer-refused}
+use borrow.Author.Needs.{needs}
+use Rattle.key.proofs.key.timer_key.Statement.{statement}
+use Rattle.key.proofs.key.timer_key.Tie as tie
+
+between-requires : tie.Need-between-requires
+between-requires c κs = search needs
+
+returns : tie.Need-returns
+returns c = λ k f n t. rw (f, failed (c .before .between .ensures) (c .if1 .taken))
+
+between-requires-2 : tie.Need-between-requires-2
+between-requires-2 c κs = search needs
+
+returns-2 : tie.Need-returns-2
+returns-2 c = λ k f n t. rw (f, passed (c .before .before .before .between .ensures) (c .before .before .if1 .left), n, failed (c .before .between2 .ensures) (c .if2 .taken))
+
+timer-name-requires : tie.Need-timer-name-requires
+timer-name-requires c κs = search needs
+
+between-requires-3 : tie.Need-between-requires-3
+between-requires-3 c κs = search needs
+
+timer-code-requires : tie.Need-timer-code-requires
+timer-code-requires c κs = search needs
+
+returns-3 : tie.Need-returns-3
+returns-3 c = λ k f n t.
+    let a = c .before .before .before .before .before .before .before .before .before .args in
+    rw (f, passed (c .before .before .before .before .before .before .before .before .between .ensures) (c .before .before .before .before .before .before .before .if1 .left), n, passed (c .before .before .before .before .before .before .between2 .ensures) (c .before .before .before .before .before .if2 .left), eq-eqb _ _ (c .before .before .before .if3 .taken), t, sym (c .before .before .between3 .ensures) ∙ c .before .if4 .taken)
+    (timer-refused (a .name) (c .timer-code .result) (setTimer (timerName (a .name)) (a .time)) (c .timer-code .ensures))
+
+returns-4 : tie.Need-returns-4
+returns-4 c = λ k f n t.
+    rw (f, passed (c .before .before .before .before .before .before .before .between .ensures) (c .before .before .before .before .before .before .if1 .left), n, passed (c .before .before .before .before .before .between2 .ensures) (c .before .before .before .before .if2 .left), eq-eqb _ _ (c .before .before .if3 .taken), t, sym (c .before .between3 .ensures) ∙ c .if4 .left, c .before .before .before .timer-name .ensures)
+
+returns-5 : tie.Need-returns-5
+returns-5 c = λ k f n t. rw (f, passed (c .before .before .before .before .before .between .ensures) (c .before .before .before .before .if1 .left), n, passed (c .before .before .before .between2 .ensures) (c .before .before .if2 .left), ne-eqb _ _ (c .if3 .left), c .before .timer-name .ensures)
+
+pub timer-key-spec : {M : Type 1} → statement M
+timer-key-spec =
+    tie.close
+    (tie.spec
+    between-requires
+    returns
+    between-requires-2
+    returns-2
+    timer-name-requires
+    between-requires-3
+    timer-code-requires
+    returns-3
+    returns-4
+    returns-5)

@@ -1,0 +1,2 @@
+-- What a key as the code reads it says.
+pub mod Meaning

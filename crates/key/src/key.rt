@@ -1,0 +1,257 @@
+// The key sector: read, checked in the paper's order, and what an accepted key asks.
+use record::Direction;
+use record::FeatureName;
+use wire::u16_at;
+use wire::u64_at;
+ghost use mathlib.Core.Path.{_≡_};
+ghost use Prim.Native.Nat.{ℕ, _+_, _≤_};
+ghost use mathlib.Core.List.{List, [], _∷_};
+ghost use lib.ListN.{length};
+ghost use lib.Dec.{eqb, leb};
+ghost use Rattle.wire.specs.Choice.{if_then_else_, between, firstFailed};
+ghost use Rattle.wire.specs.Parts.{part};
+ghost use Rattle.model.specs.Sizes.{sectorSize};
+ghost use Rattle.model.specs.Device.{Device};
+ghost use Rattle.model.specs.Key.{word, start, count, highestState, timerName, featureName, fillChecks, timerChecks, featureChecks, tableChecks, fillEnd, fillPattern, fillSector, fillAction, timerAction, setFeature, returnState, returnOption, featureAction, sendTable, patternSector, verdict, judgeKey};
+ghost use Rattle.record.specs.Meaning.{asDirection, asFeatureName};
+ghost use Rattle.key.specs.Meaning.{asAction, asVerdict, refusalOf};
+
+// A fill's numbers are its first sector and its end. A timer is set to a number of 100 ms; a feature to a state, with true where the
+// option is 1: "Option 1 keeps a state over power".
+pub enum Action {
+    FillPattern(u64, u64),
+    FillSector(u64, u64),
+    SetTimer(Direction, u16),
+    ReturnTimer(Direction),
+    SetFeature(FeatureName, u16, bool),
+    ReturnState(FeatureName),
+    ReturnOption(FeatureName),
+    SendTable,
+}
+
+// A key is accepted with what it asks, or refused with its code.
+pub enum KeyRead {
+    Accepted(Action),
+    Refused(u16),
+}
+
+// The code of a refused key, and 0 of an accepted one.
+pub fn refusal_of(key: KeyRead) -> u16
+    ensures { λ r. ⌜ r ≡ refusalOf key ⌝ }
+{
+    match key {
+        KeyRead::Accepted(_) => 0,
+        KeyRead::Refused(code) => code,
+    }
+}
+
+// Whether low ≤ x ≤ high.
+fn between(low: u16, x: u16, high: u16) -> bool
+    ensures { λ r. ⌜ r ≡ between low x high ⌝ }
+{
+    (low <= x) & (x <= high)
+}
+
+// "Count 0 means up to the last user LBA."
+fn fill_end(first: u64, sectors: u64, visible: u64) -> u64
+    requires { ⌜ first + sectors ≤ visible ⌝ }
+    ensures { λ r. ⌜ ((k : List ℕ) → start k ≡ first → count k ≡ sectors → r ≡ fillEnd visible k) ⌝ }
+{
+    if sectors == 0 {
+        return visible;
+    }
+    first + sectors
+}
+
+// Whether Start + Count is at most the last user LBA. The sum is not formed: it may not fit 64 bits.
+fn sum_within(first: u64, sectors: u64, last: u64) -> bool
+    requires { ⌜ first ≤ last ⌝ }
+    ensures { λ r. ⌜ r ≡ leb (first + sectors) last ⌝ }
+{
+    sectors <= last - first
+}
+
+// "1 pattern, 2 sector"
+fn fill_asked(function: u16, first: u64, end: u64) -> Action
+    ensures { λ r. ⌜ ((sector : List ℕ) → asAction r sector ≡ (if eqb function 1 then fillPattern first end sector else fillSector first end)) ⌝ }
+{
+    if function == 1 {
+        return Action::FillPattern(first, end);
+    }
+    Action::FillSector(first, end)
+}
+
+// Action 2: "1 pattern, 2 sector; else 0001h"; "Start above last user LBA, or Start + Count above last user LBA: 0002h".
+fn fill_key(function: u16, first: u64, sectors: u64, visible: u64) -> KeyRead
+    requires { ⌜ 1 ≤ visible ⌝ }
+    ensures { λ r. ⌜ ((k : List ℕ) → word k 1 ≡ function → start k ≡ first → count k ≡ sectors → asVerdict r (patternSector k) ≡ verdict (firstFailed (fillChecks visible k)) (fillAction visible k)) ⌝ }
+{
+    if !between(1, function, 2) {
+        return KeyRead::Refused(0x0001);
+    }
+    let last = visible - 1;
+    if first > last {
+        return KeyRead::Refused(0x0002);
+    }
+    if !sum_within(first, sectors, last) {
+        return KeyRead::Refused(0x0002);
+    }
+    let end = fill_end(first, sectors, visible);
+    let action = fill_asked(function, first, end);
+    KeyRead::Accepted(action)
+}
+
+// "word 2 is 1 read or 2 write"
+fn timer_name(name: u16) -> Direction
+    ensures { λ r. ⌜ asDirection r ≡ timerName name ⌝ }
+{
+    if name == 1 {
+        return Direction::Read;
+    }
+    Direction::Write
+}
+
+// "0006h (read) or 0007h (write)"
+fn timer_code(name: u16) -> u16
+    ensures { λ r. ⌜ r ≡ (if eqb name 1 then 0x0006 else 0x0007) ⌝ }
+{
+    if name == 1 {
+        return 0x0006;
+    }
+    0x0007
+}
+
+// Action 3: "1 set, 2 return; else 0004h"; "word 2 is 1 read or 2 write, else 0005h";
+// "set: word 3 in 100 ms, 1 to 9 gives 0006h (read) or 0007h (write); 0 is off"
+fn timer_key(function: u16, name: u16, time: u16) -> KeyRead
+    ensures { λ r. ⌜ ((k : List ℕ) → word k 1 ≡ function → word k 2 ≡ name → word k 3 ≡ time → asVerdict r (patternSector k) ≡ verdict (firstFailed (timerChecks k)) (timerAction k)) ⌝ }
+{
+    if !between(1, function, 2) {
+        return KeyRead::Refused(0x0004);
+    }
+    if !between(1, name, 2) {
+        return KeyRead::Refused(0x0005);
+    }
+    let dir = timer_name(name);
+    if function == 1 {
+        if between(1, time, 9) {
+            return KeyRead::Refused(timer_code(name));
+        }
+        return KeyRead::Accepted(Action::SetTimer(dir, time));
+    }
+    KeyRead::Accepted(Action::ReturnTimer(dir))
+}
+
+// "Feature states: 1 (write cache) ..; 2 (reordering) ..; 3 (log interval) .."
+fn feature_name(name: u16) -> FeatureName
+    ensures { λ r. ⌜ asFeatureName r ≡ featureName name ⌝ }
+{
+    if name == 1 {
+        return FeatureName::Cache;
+    }
+    if name == 2 {
+        return FeatureName::Reordering;
+    }
+    FeatureName::Interval
+}
+
+// "Feature states: 1 (write cache) 1 to 3; 2 (reordering) 1 or 2; 3 (log interval) 1 to 65,535 minutes."
+fn highest_state(name: u16) -> u16
+    ensures { λ r. ⌜ r ≡ highestState name ⌝ }
+{
+    if name == 1 {
+        return 3;
+    }
+    if name == 2 {
+        return 2;
+    }
+    65535
+}
+
+// "word 4 other than 0 or 1 000Fh"; "Option 1 keeps a state over power"
+fn feature_set(feature: FeatureName, state: u16, option: u16) -> KeyRead
+    ensures { λ r. ⌜ ((sector : List ℕ) → asVerdict r sector ≡ verdict (firstFailed ((leb option 1, 0x000F) ∷ [])) (setFeature (asFeatureName feature) state (eqb option 1))) ⌝ }
+{
+    if option > 1 {
+        return KeyRead::Refused(0x000F);
+    }
+    KeyRead::Accepted(Action::SetFeature(feature, state, option == 1))
+}
+
+// "2 state, 3 options"
+fn feature_returned(function: u16, feature: FeatureName) -> Action
+    ensures { λ r. ⌜ ((sector : List ℕ) → asAction r sector ≡ (if eqb function 2 then returnState (asFeatureName feature) else returnOption (asFeatureName feature))) ⌝ }
+{
+    if function == 2 {
+        return Action::ReturnState(feature);
+    }
+    Action::ReturnOption(feature)
+}
+
+// Action 4: "1 set, 2 state, 3 options; else 000Ch"; "word 2 is 1 to 3, else 000Dh";
+// "set only: word 3 invalid 000Eh, then word 4 other than 0 or 1 000Fh"
+fn feature_key(function: u16, name: u16, state: u16, option: u16) -> KeyRead
+    ensures { λ r. ⌜ ((k : List ℕ) → word k 1 ≡ function → word k 2 ≡ name → word k 3 ≡ state → word k 4 ≡ option → asVerdict r (patternSector k) ≡ verdict (firstFailed (featureChecks k)) (featureAction k)) ⌝ }
+{
+    if !between(1, function, 3) {
+        return KeyRead::Refused(0x000C);
+    }
+    if !between(1, name, 3) {
+        return KeyRead::Refused(0x000D);
+    }
+    let feature = feature_name(name);
+    if function == 1 {
+        if !between(1, state, highest_state(name)) {
+            return KeyRead::Refused(0x000E);
+        }
+        return feature_set(feature, state, option);
+    }
+    let action = feature_returned(function, feature);
+    KeyRead::Accepted(action)
+}
+
+// Action 5: "1; else 0001h"; "word 2 is 2, else 0011h"
+fn table_key(function: u16, name: u16) -> KeyRead
+    ensures { λ r. ⌜ ((k : List ℕ) → word k 1 ≡ function → word k 2 ≡ name → asVerdict r (patternSector k) ≡ verdict (firstFailed (tableChecks k)) sendTable) ⌝ }
+{
+    if function != 1 {
+        return KeyRead::Refused(0x0001);
+    }
+    if name != 2 {
+        return KeyRead::Refused(0x0011);
+    }
+    KeyRead::Accepted(Action::SendTable)
+}
+
+// The key sector at `at`: the lock comes first, with 0012h; then an action that is "not 2 to 5", with 0010h; then the action's checks.
+// Of the device a key's checks see the lock and V, and nothing else.
+pub fn read_key(area: &[u8], at: usize, locked: bool, visible: u64) -> KeyRead
+    requires { ⌜ (at + sectorSize ≤ length (now area)) × (1 ≤ visible) ⌝ }
+    ensures { λ r. ⌜ ((d : Device) → d .locked ≡ locked → d .visible ≡ visible → asVerdict r (patternSector (part (now (area .entry)) at sectorSize)) ≡ judgeKey d (part (now (area .entry)) at sectorSize)) ⌝ }
+{
+    if locked {
+        return KeyRead::Refused(0x0012);
+    }
+    let action = u16_at(area, at);
+    if !between(2, action, 5) {
+        return KeyRead::Refused(0x0010);
+    }
+    let function = u16_at(area, at + 2);
+    if action == 2 {
+        return fill_key(
+            function,
+            u64_at(area, at + 4),
+            u64_at(area, at + 12),
+            visible,
+        );
+    }
+    let name = u16_at(area, at + 4);
+    let value = u16_at(area, at + 6);
+    if action == 3 {
+        return timer_key(function, name, value);
+    }
+    if action == 4 {
+        return feature_key(function, name, value, u16_at(area, at + 8));
+    }
+    table_key(function, name)
+}

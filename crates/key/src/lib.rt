@@ -1,0 +1,7 @@
+// The key sector: its checks in order, and what an accepted key asks.
+mod key;
+
+pub use key::Action;
+pub use key::KeyRead;
+pub use key::read_key;
+pub use key::refusal_of;

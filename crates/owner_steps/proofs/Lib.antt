@@ -1,0 +1,2 @@
+-- Laws of the owner's steps.
+pub mod OwnerStepLaws

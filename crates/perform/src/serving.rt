@@ -1,0 +1,22 @@
+// The request that a slot holds, decided and performed.
+use crate::decision::perform;
+use sizes::MAILBOX;
+ghost use mathlib.Core.Path.{_≡_};
+ghost use Prim.Native.Nat.{_*_};
+ghost use lib.ListN.{length};
+ghost use Rattle.model.specs.Sizes.{sectorSize};
+ghost use Rattle.model.specs.Decide.{decide};
+ghost use Rattle.store.specs.Record.{decode};
+ghost use Rattle.store.specs.Store.{slotBytes};
+ghost use Rattle.perform.specs.Served.{Served, Entered};
+
+// "answers the held request from the slot alone and leaves the reply in the slot". The disk is its visible part.
+pub fn serve(r: &mut [u8], area: &mut [u8], disk: &mut [u8], p: usize)
+    requires { ⌜ Entered (now r) (now area) p × (length (now disk) ≡ sectorSize * decode (now r) .device .visible) ⌝ }
+    ensures { λ _. ⌜ Served p (decide (record { port = p }) (slotBytes p (now (area .entry))) (decode (now (r .entry)) .device)) (decode (now (r .entry)) .stages) (now (area .entry)) (now (disk .entry)) (now (r .exit)) (now (area .exit)) (now (disk .exit)) ⌝ }
+{
+    let d = record::decode(r);
+    let q = request::request_of(area, MAILBOX * p);
+    let k = decide::decide(q, area, p, d);
+    perform(r, area, disk, p, k);
+}

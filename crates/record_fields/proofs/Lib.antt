@@ -1,0 +1,2 @@
+-- Laws of the fields of slots.
+pub mod SlotsLaws

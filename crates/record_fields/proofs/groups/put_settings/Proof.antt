@@ -1,0 +1,92 @@
+-- `record_fields::put_settings` meets its contract.
+use native.Mathlib.Omega.{arith}
+use borrow.Author.Needs.{needs}
+use Rattle.record_fields.proofs.groups.put_settings.Statement.{statement}
+use Rattle.record_fields.proofs.groups.put_settings.Tie as tie
+
+put-u16-requires : tie.Need-put-u16-requires
+put-u16-requires c κs = search needs
+
+put-u16-requires-2 : tie.Need-put-u16-requires-2
+put-u16-requires-2 c κs = search needs
+
+put-u16-requires-3 : tie.Need-put-u16-requires-3
+put-u16-requires-3 c κs = search needs
+
+put-u16-requires-4 : tie.Need-put-u16-requires-4
+put-u16-requires-4 c κs = search needs
+
+bit-of-requires : tie.Need-bit-of-requires
+bit-of-requires c κs = search needs
+
+put-u8-requires : tie.Need-put-u8-requires
+put-u8-requires c κs = search needs
+
+bit-of-requires-2 : tie.Need-bit-of-requires-2
+bit-of-requires-2 c κs = search needs
+
+put-u8-requires-2 : tie.Need-put-u8-requires-2
+put-u8-requires-2 c κs = search needs
+
+bit-of-requires-3 : tie.Need-bit-of-requires-3
+bit-of-requires-3 c κs = search needs
+
+put-u8-requires-3 : tie.Need-put-u8-requires-3
+put-u8-requires-3 c κs = search needs
+
+same-length : tie.Need-same-length
+same-length c = search needs
+
+returns : tie.Need-returns
+returns c =
+    let at-put-u83 = c .before .before in
+    let at-bit-of3 = at-put-u83 .before in
+    let at-put-u82 = at-bit-of3 .before .before .before .before in
+    let at-bit-of2 = at-put-u82 .before in
+    let at-put-u8 = at-bit-of2 .before .before .before .before in
+    let at-bit-of = at-put-u8 .before in
+    let at-put-u164 = at-bit-of .before .before .before .before in
+    let at-put-u163 = at-put-u164 .before .before .before .before in
+    let at-put-u162 = at-put-u163 .before .before .before .before in
+    let at-put-u16 = at-put-u162 .before .before .before .before in
+    let entry = at-put-u16 .before .before .before in (
+      rw (
+        at-put-u83 .put-u83 .ensures,
+        at-bit-of3 .bit-of3 .ensures,
+        at-put-u82 .put-u82 .ensures,
+        at-bit-of2 .bit-of2 .ensures,
+        at-put-u8 .put-u8 .ensures,
+        at-bit-of .bit-of .ensures,
+        at-put-u164 .put-u164 .ensures,
+        at-put-u163 .put-u163 .ensures,
+        at-put-u162 .put-u162 .ensures,
+        at-put-u16 .put-u16 .ensures,
+      ),
+      omega (
+        arith,
+        entry .good,
+        at-bit-of .bit-of .ensures,
+        at-bit-of .bit-of .ok,
+        at-bit-of2 .bit-of2 .ensures,
+        at-bit-of2 .bit-of2 .ok,
+        at-bit-of3 .bit-of3 .ensures,
+        at-bit-of3 .bit-of3 .ok,
+      ),
+    )
+
+pub put-settings-spec : {M : Type 1} → statement M
+put-settings-spec =
+    tie.close
+    (tie.spec
+    put-u16-requires
+    put-u16-requires-2
+    put-u16-requires-3
+    put-u16-requires-4
+    bit-of-requires
+    put-u8-requires
+    bit-of-requires-2
+    put-u8-requires-2
+    bit-of-requires-3
+    put-u8-requires-3
+    same-length
+    returns)

@@ -1,0 +1,90 @@
+// Cases as the numbers that a record holds.
+use record::Fill;
+use record::Stage;
+use record::Transfer;
+ghost use mathlib.Core.Path.{_≡_};
+ghost use Rattle.wire.specs.Choice.{bit};
+ghost use Rattle.store.specs.Record.{stageNumber, fillKind, fillFirst, fillNext, fillEnd, transferKind, transferFirst, transferEnd};
+ghost use Rattle.record.specs.Meaning.{asStage, asTransfer, asFill};
+
+pub fn bit_of(b: bool) -> u8
+    ensures { λ res. ⌜ res ≡ bit b ⌝ }
+{
+    if b { 1 } else { 0 }
+}
+
+pub fn stage_number(s: Stage) -> u8
+    ensures { λ res. ⌜ res ≡ stageNumber (asStage s) ⌝ }
+{
+    match s {
+        Stage::Empty => 0,
+        Stage::Held => 1,
+        Stage::Answered => 2,
+    }
+}
+
+pub fn transfer_kind(t: Transfer) -> u8
+    ensures { λ res. ⌜ res ≡ transferKind (asTransfer t) ⌝ }
+{
+    match t {
+        Transfer::None => 0,
+        Transfer::Table => 1,
+        Transfer::FillData(_, _) => 2,
+    }
+}
+
+pub fn transfer_first(t: Transfer) -> u64
+    ensures { λ res. ⌜ res ≡ transferFirst (asTransfer t) ⌝ }
+{
+    match t {
+        Transfer::None => 0,
+        Transfer::Table => 0,
+        Transfer::FillData(first, _) => first,
+    }
+}
+
+pub fn transfer_end(t: Transfer) -> u64
+    ensures { λ res. ⌜ res ≡ transferEnd (asTransfer t) ⌝ }
+{
+    match t {
+        Transfer::None => 0,
+        Transfer::Table => 0,
+        Transfer::FillData(_, end) => end,
+    }
+}
+
+pub fn fill_kind(f: Fill) -> u8
+    ensures { λ res. ⌜ res ≡ fillKind (asFill f) ⌝ }
+{
+    match f {
+        Fill::Idle => 0,
+        Fill::Running(_, _, _) => 1,
+    }
+}
+
+pub fn fill_first(f: Fill) -> u64
+    ensures { λ res. ⌜ res ≡ fillFirst (asFill f) ⌝ }
+{
+    match f {
+        Fill::Idle => 0,
+        Fill::Running(first, _, _) => first,
+    }
+}
+
+pub fn fill_next(f: Fill) -> u64
+    ensures { λ res. ⌜ res ≡ fillNext (asFill f) ⌝ }
+{
+    match f {
+        Fill::Idle => 0,
+        Fill::Running(_, next, _) => next,
+    }
+}
+
+pub fn fill_end(f: Fill) -> u64
+    ensures { λ res. ⌜ res ≡ fillEnd (asFill f) ⌝ }
+{
+    match f {
+        Fill::Idle => 0,
+        Fill::Running(_, _, end) => end,
+    }
+}

@@ -1,0 +1,2 @@
+-- Laws of what is read from a slot.
+pub mod SlotLaws

@@ -1,0 +1,62 @@
+-- `request::log_ext` meets its contract.
+use borrow.Author.Tests.{eq-eqb, ne-eqb}
+use native.Mathlib.Omega.{arith}
+use Rattle.model.specs.Registers.{logExt}
+use Rattle.wire.proofs.PartsLaws.{number-of}
+use Rattle.request.proofs.SlotLaws.{byte-of}
+use borrow.Author.Needs.{needs}
+use Rattle.request.proofs.request.log_ext.Statement.{statement}
+use Rattle.request.proofs.request.log_ext.Tie as tie
+
+add-u16-at : tie.Need-add-u16-at
+add-u16-at c = search needs
+
+u16-at-requires : tie.Need-u16-at-requires
+u16-at-requires c κs = search needs
+
+returns : tie.Need-returns
+unfolding logExt
+returns c =
+    let a = c .before .before .before .args in
+    rw (number-of 2 (a .area .now) (a .at) 528 6 (omega arith) (c .before .u16-at .ensures), ne-eqb _ _ (c .if1 .taken))
+
+add-u8-at : tie.Need-add-u8-at
+add-u8-at c = search needs
+
+u8-at-requires : tie.Need-u8-at-requires
+u8-at-requires c κs = search needs
+
+add-u16-at-2 : tie.Need-add-u16-at-2
+add-u16-at-2 c = search needs
+
+u16-at-requires-2 : tie.Need-u16-at-requires-2
+u16-at-requires-2 c κs = search needs
+
+log-page-requires : tie.Need-log-page-requires
+log-page-requires c κs = search needs
+
+returns-2 : tie.Need-returns-2
+unfolding logExt
+returns-2 c =
+    let a = c .before .before .before .before .before .before .args in
+    rw (
+      number-of 2 (a .area .now) (a .at) 528 6 (omega arith) (c .before .before .before .before .u16-at .ensures),
+      eq-eqb _ _ (c .before .before .before .if1 .left),
+      byte-of (a .area .now) (a .at) 4 (omega arith) (c .before .before .u8-at .ensures),
+      number-of 2 (a .area .now) (a .at) 528 2 (omega arith) (c .before .u16-at2 .ensures),
+    )
+    (c .log-page .ensures)
+
+pub log-ext-spec : {M : Type 1} → statement M
+log-ext-spec =
+    tie.close
+    (tie.spec
+    add-u16-at
+    u16-at-requires
+    returns
+    add-u8-at
+    u8-at-requires
+    add-u16-at-2
+    u16-at-requires-2
+    log-page-requires
+    returns-2)

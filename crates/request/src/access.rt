@@ -1,0 +1,68 @@
+// The checks of a data transfer (E1h) and of one sector's access (24h and 34h).
+use record::Direction;
+use record::Transfer;
+ghost use mathlib.Core.Path.{_≡_};
+ghost use Rattle.wire.specs.Choice.{firstFailed};
+ghost use Rattle.model.specs.Device.{Device};
+ghost use Rattle.model.specs.Decide.{moves, sectorsOf, dataChecks, sectorChecks};
+ghost use Rattle.record.specs.Meaning.{asTransfer, asDirection};
+
+// Whether the pending transfer goes in this direction: the table is read, a fill's sector written.
+fn moves(dir: Direction, pending: Transfer) -> bool
+    ensures { λ r. ⌜ r ≡ moves (asDirection dir) (asTransfer pending) ⌝ }
+{
+    match pending {
+        Transfer::None => false,
+        Transfer::Table => match dir {
+            Direction::Read => true,
+            Direction::Write => false,
+        },
+        Transfer::FillData(_, _) => match dir {
+            Direction::Read => false,
+            Direction::Write => true,
+        },
+    }
+}
+
+// The sectors that a transfer moves.
+fn sectors_of(pending: Transfer) -> u16
+    ensures { λ r. ⌜ r ≡ sectorsOf (asTransfer pending) ⌝ }
+{
+    match pending {
+        Transfer::None => 0,
+        Transfer::Table => 1,
+        Transfer::FillData(_, _) => 1,
+    }
+}
+
+// "E1h is judged: lock 0012h; .. 000Bh; count not 1 0003h." 0 where nothing fails.
+pub fn data_code(locked: bool, dir: Direction, count: u16, pending: Transfer) -> u16
+    ensures { λ r. ⌜ r ≡ firstFailed (dataChecks locked (asDirection dir) count (asTransfer pending)) ⌝ }
+{
+    if locked {
+        return 0x0012;
+    }
+    if !moves(dir, pending) {
+        return 0x000B;
+    }
+    if count != sectors_of(pending) {
+        return 0x0003;
+    }
+    0
+}
+
+// "Count (16 bits) other than 1: Error 04h. LBA at or above V: Error 10h. Locked: Error 04h, before both." 0 where nothing fails.
+pub fn sector_error(locked: bool, visible: u64, count: u16, lba: u64) -> u8
+    ensures { λ r. ⌜ ((d : Device) → d .locked ≡ locked → d .visible ≡ visible → r ≡ firstFailed (sectorChecks d count lba)) ⌝ }
+{
+    if locked {
+        return 0x04;
+    }
+    if count != 1 {
+        return 0x04;
+    }
+    if lba >= visible {
+        return 0x10;
+    }
+    0
+}

@@ -1,0 +1,73 @@
+-- `runs::copy_part` meets its contract. The invariant: `dst` is what it was with the first j bytes copied.
+use native.Mathlib.Numerals.{add-one}
+use mathlib.Core.Path.{_≡_, refl, sym, ap, _∙_}
+use Prim.Native.Nat.{_+_, _*_, _-_, _≤_, _<_, zero-le}
+use native.Mathlib.Omega.{arith}
+use lib.ListN.{length, length-set}
+use lib.Seq.{sets}
+use Rattle.wire.specs.Parts.{part}
+use Rattle.runs.proofs.RunLaws.{copy-more}
+use Rattle.runs.proofs.run.copy_part.Statement.{statement}
+use Rattle.runs.proofs.run.copy_part.Tie as tie
+
+abbrev Inv-loop : tie.InvT-loop
+Inv-loop dst₀ at src from n j₀ dst j = (j ≤ n) × (length dst ≡ length dst₀) × (dst ≡ sets dst₀ at (part src from j))
+
+abbrev μ-loop : tie.MeasureT-loop
+μ-loop dst₀ at src from n j₀ dst j = n - j
+
+loop-holds : tie.Need-loop-holds Inv-loop μ-loop
+loop-holds c = (zero-le, refl, refl)
+
+add-dst : tie.Need-add-dst Inv-loop μ-loop
+add-dst c = omega arith
+
+shared-slice-read-dst : tie.Need-shared-slice-read-dst Inv-loop μ-loop
+shared-slice-read-dst c = omega arith
+
+add-dst-2 : tie.Need-add-dst-2 Inv-loop μ-loop
+add-dst-2 c = omega arith
+
+slice-write-dst : tie.Need-slice-write-dst Inv-loop μ-loop
+slice-write-dst c = omega arith
+
+add-j : tie.Need-add-j Inv-loop μ-loop
+add-j c = omega arith
+
+loop-less : tie.Need-loop-less Inv-loop μ-loop
+loop-less c = omega arith
+
+loop-again : tie.Need-loop-again Inv-loop μ-loop
+loop-again c =
+    let g = c .before .before in
+    let a = g .before .args in (
+      omega arith,
+      simp length-set (g .loop .inv .1),
+      rw (g .loop .inv .2, add-one) (copy-more (a .dst .now) (a .src .now) (a .at) (a .from) (g .loop .j) (omega arith)),
+    )
+
+same-length : tie.Need-same-length Inv-loop μ-loop
+same-length c = c .before .loop .inv .1
+
+returns : tie.Need-returns Inv-loop μ-loop
+returns c =
+    let a = c .before .before .args in
+    let past : c .before .loop .j ≡ a .n = omega arith in
+    rw (c .before .loop .inv .2, past)
+
+pub copy-part-spec : {M : Type 1} → statement M
+copy-part-spec =
+    tie.close
+    (tie.spec
+    Inv-loop
+    μ-loop
+    loop-holds
+    add-dst
+    shared-slice-read-dst
+    add-dst-2
+    slice-write-dst
+    add-j
+    loop-less
+    loop-again
+    same-length
+    returns)

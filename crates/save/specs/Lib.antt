@@ -1,2 +1,0 @@
--- The head of an entry's body.
-pub mod Head

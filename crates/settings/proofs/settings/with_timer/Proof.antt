@@ -1,0 +1,23 @@
+-- `settings::with_timer` meets its contract.
+use mathlib.Core.Path.{sym, _∙_}
+use Rattle.record.specs.Meaning.{asSettings, asDirection}
+use Rattle.settings.proofs.SettingsLaws.{read-timer, write-timer}
+use borrow.Author.Needs.{needs}
+use Rattle.settings.proofs.settings.with_timer.Statement.{statement}
+use Rattle.settings.proofs.settings.with_timer.Tie as tie
+
+is-read-requires : tie.Need-is-read-requires
+is-read-requires c κs = search needs
+
+returns : tie.Need-returns
+returns c =
+    let a = c .before .before .args in
+    read-timer (asDirection (a .dir)) (a .n) (asSettings (a .s)) (sym (c .before .is-read .ensures) ∙ c .if1 .taken)
+
+returns-2 : tie.Need-returns-2
+returns-2 c =
+    let a = c .before .before .args in
+    write-timer (asDirection (a .dir)) (a .n) (asSettings (a .s)) (sym (c .before .is-read .ensures) ∙ c .if1 .left)
+
+pub with-timer-spec : {M : Type 1} → statement M
+with-timer-spec = tie.close (tie.spec is-read-requires returns returns-2)

@@ -1,0 +1,2 @@
+-- Timers and features.
+pub mod Features

@@ -1,0 +1,8 @@
+// The recovery timers and the features, by value: read and set.
+mod settings;
+
+pub use settings::feature;
+pub use settings::is_interval;
+pub use settings::set_feature;
+pub use settings::set_timer;
+pub use settings::timer;

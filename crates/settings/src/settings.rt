@@ -1,0 +1,121 @@
+// The recovery timers and the features.
+use record::Device;
+use record::Direction;
+use record::Feature;
+use record::FeatureName;
+use record::Settings;
+ghost use mathlib.Core.Path.{_≡_};
+ghost use Rattle.model.specs.Update.{withSettings};
+ghost use Rattle.model.specs.Decide.{timer, withTimer, feature, withFeature};
+ghost use Rattle.record.specs.Meaning.{asFeature, asSettings, asDirection, asFeatureName};
+ghost use Rattle.control.specs.Change.{Changed};
+ghost use Rattle.settings.specs.Features.{FeatureSet, isRead, isCache, isInterval};
+
+// The recovery timer of reads or of writes.
+pub fn timer(dir: Direction, s: Settings) -> u16
+    ensures { λ r. ⌜ r ≡ timer (asDirection dir) (asSettings s) ⌝ }
+{
+    match dir {
+        Direction::Read => s.read,
+        Direction::Write => s.write,
+    }
+}
+
+fn is_read(dir: Direction) -> bool
+    ensures { λ r. ⌜ r ≡ isRead (asDirection dir) ⌝ }
+{
+    match dir {
+        Direction::Read => true,
+        Direction::Write => false,
+    }
+}
+
+fn with_timer(dir: Direction, n: u16, s: Settings) -> Settings
+    ensures { λ r. ⌜ asSettings r ≡ withTimer (asDirection dir) n (asSettings s) ⌝ }
+{
+    let mut t = s;
+    if is_read(dir) {
+        t.read = n;
+        return t;
+    }
+    t.write = n;
+    t
+}
+
+// Sets the recovery timer of reads or of writes to n times 100 ms.
+pub fn set_timer(d: Device, dir: Direction, n: u16) -> Device
+    ensures { λ r. ⌜ Changed (λ x. withSettings (withTimer (asDirection dir) n (x .settings)) x) d r ⌝ }
+{
+    let s = d.settings;
+    let t = with_timer(dir, n, s);
+    let mut e = d;
+    e.settings = t;
+    e
+}
+
+// A feature's state and option.
+pub fn feature(name: FeatureName, s: Settings) -> Feature
+    ensures { λ r. ⌜ asFeature r ≡ feature (asFeatureName name) (asSettings s) ⌝ }
+{
+    match name {
+        FeatureName::Cache => s.cache,
+        FeatureName::Reordering => s.reordering,
+        FeatureName::Interval => s.interval,
+    }
+}
+
+fn is_cache(name: FeatureName) -> bool
+    ensures { λ r. ⌜ r ≡ isCache (asFeatureName name) ⌝ }
+{
+    match name {
+        FeatureName::Cache => true,
+        FeatureName::Reordering => false,
+        FeatureName::Interval => false,
+    }
+}
+
+// Whether a feature is number 3, the log interval.
+pub fn is_interval(name: FeatureName) -> bool
+    ensures { λ r. ⌜ r ≡ isInterval (asFeatureName name) ⌝ }
+{
+    match name {
+        FeatureName::Cache => false,
+        FeatureName::Reordering => false,
+        FeatureName::Interval => true,
+    }
+}
+
+fn with_feature(name: FeatureName, f: Feature, s: Settings) -> Settings
+    ensures { λ r. ⌜ asSettings r ≡ withFeature (asFeatureName name) (asFeature f) (asSettings s) ⌝ }
+{
+    let mut t = s;
+    if is_cache(name) {
+        t.cache = f;
+        return t;
+    }
+    if is_interval(name) {
+        t.interval = f;
+        return t;
+    }
+    t.reordering = f;
+    t
+}
+
+// Sets a feature. "Any set of feature 3 empties the temperature history": the index and minutes here; the caller empties the history in the record's bytes.
+pub fn set_feature(d: Device, name: FeatureName, state: u16, persistent: bool) -> Device
+    ensures { λ r. ⌜ FeatureSet (asFeatureName name) state persistent d r ⌝ }
+{
+    let f = Feature { state, persistent };
+    let s = d.settings;
+    let t = with_feature(name, f, s);
+    let mut e = d;
+    e.settings = t;
+    if is_interval(name) {
+        let mut thermal = d.thermal;
+        thermal.index = 477;
+        thermal.minutes = 0;
+        e.thermal = thermal;
+        return e;
+    }
+    e
+}
