@@ -28,15 +28,10 @@ use Rattle.model.proofs.EntryLaws.{SavedFits, saved-at, read-fits}
 use Rattle.model.proofs.EntryFormat.{BodyAt, body-at, get-trailer, trailer-fields}
 use Rattle.store.specs.InPlace.{tableFixed}
 use Rattle.store.proofs.TableInPlace.{implied, table-is, table-fixed}
+use Rattle.store.proofs.InPlaceLaws.{flag-exact}
 use Rattle.image.specs.InPlace.{bodyInPlace, trailerInPlace}
 
 -- ---- a body's head
-
--- a flag byte says its flag
-flag-exact : (n : ℕ) → n ≤ 1 → n ≡ bit (eqb n 1)
-flag-exact zero h = refl
-flag-exact (suc zero) h = refl
-flag-exact (suc (suc n)) h = absurd (omega arith)
 
 -- a byte below 8 says its three options
 options-exact : (n : ℕ) → n ≤ 7 → n ≡ bit (hasBit 1 n) + 2 * bit (hasBit 2 n) + 4 * bit (hasBit 4 n)

@@ -88,7 +88,7 @@ part-history s e =
     (length-append head table ∙ rw (length-form headSize (headFields s), length-form tableHeadSize (tableFields (s .logInterval .state) (s .index))))
     e
 
-flag-back : (b : Bool) → eqb (bit b) 1 ≡ b
+pub flag-back : (b : Bool) → eqb (bit b) 1 ≡ b
 flag-back true = refl
 flag-back false = refl
 

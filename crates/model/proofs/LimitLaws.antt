@@ -10,7 +10,8 @@ use lib.Dec.{eqb, ltb}
 use borrow.Author.Tests.{eqb-true, eq-eqb, lt-leb, le-leb}
 use Rattle.wire.specs.Choice.{between}
 use Rattle.wire.proofs.ChoiceLaws.{and-left, and-right, between-true, between-within}
-use Rattle.model.specs.Image.{readable, sameDisk, hasRoom, wholeSectors}
+use Rattle.model.specs.Sizes.{nativeLimit, entrySize, entryLimit}
+use Rattle.model.specs.Image.{entries, readable, sameDisk, hasRoom, wholeSectors}
 use Rattle.model.specs.Machine.{Machine}
 use Rattle.model.specs.Step.{save}
 use Rattle.model.proofs.RefusalLaws.{answerOf, save-full}
@@ -27,10 +28,10 @@ disk-sizes-refused = (refl, refl, refl)
 pub whole-sectors : (n : ℕ) → (wholeSectors n ≡ true) ↔ ((n % 512 ≡ 0) × (512 ≤ n) × (n ≤ 33554432))
 whole-sectors n = (
   λ e.
-      let multiple = eqb-true (n % 512) 0 (and-left (eqb (n % 512) 0) (between 1 (n / 512) 65536) e) in
-      let within = between-true 1 (n / 512) 65536 (and-right (eqb (n % 512) 0) (between 1 (n / 512) 65536) e) in
+      let multiple = eqb-true (n % 512) 0 (and-left (eqb (n % 512) 0) (between 1 (n / 512) nativeLimit) e) in
+      let within = between-true 1 (n / 512) nativeLimit (and-right (eqb (n % 512) 0) (between 1 (n / 512) nativeLimit) e) in
       (multiple, omega (arith, within .0), omega (arith, multiple, within .1)),
-  λ k. rw (eq-eqb (n % 512) 0 (k .0)) (between-within 1 (n / 512) 65536 (omega (arith, k .1)) (omega (arith, k .2))),
+  λ k. rw (eq-eqb (n % 512) 0 (k .0)) (between-within 1 (n / 512) nativeLimit (omega (arith, k .1)) (omega (arith, k .2))),
 )
 
 -- "The used length is a multiple of 560, at most 65,520"
@@ -45,7 +46,7 @@ pub room-last : (image : List ℕ) → 65520 ≤ length image → hasRoom image 
 room-last image h = rw (le-leb 65520 (length image) h)
 
 pub room-short : (image : List ℕ) (used : ℕ) → length image < used + 560 → hasRoom image used ≡ false
-room-short image used h = rw (lt-leb (used + 560) (length image) h) (and-false (ltb (used / 560) 117))
+room-short image used h = rw (lt-leb (used + entrySize) (length image) h) (and-false (ltb (entries used) entryLimit))
 
 pub save-at-limit : (image : List ℕ) (M : Machine) → 65520 ≤ length image → readable image 65520 ≡ true → sameDisk (M .device .native) image 65520 ≡ true
     → answerOf (save image 65520) M ≡ 8

@@ -118,7 +118,7 @@ zero-run (x ∷ xs) r h =
 
 -- ---- named values are what they say
 
-flag-exact : (n : ℕ) → n ≤ 1 → n ≡ bit (flagOf n)
+pub flag-exact : (n : ℕ) → n ≤ 1 → n ≡ bit (flagOf n)
 flag-exact zero h = refl
 flag-exact (suc zero) h = refl
 flag-exact (suc (suc n)) h = absurd (omega arith)

@@ -19,6 +19,7 @@ use Rattle.model.specs.Device.{Fill, idle, running, Transfer, none, table, fill
 use Rattle.model.specs.Temperature.{tableIntervalPlace, tableIndexPlace, tableHeadSize, tableBytes}
 use Rattle.model.specs.Valid.{FillValid, TransferValid, PendingValid, Valid}
 use Rattle.model.proofs.FormatLaws.{TableAt, table-at, table-bytes}
+use Rattle.model.proofs.EntryLaws.{flag-back}
 use Rattle.store.specs.Areas.{recordSize, headSize}
 use Rattle.store.specs.Record.{Stage, empty, held, answered, Contents, stageNumber, fillKind, fillFirst, fillNext, fillEnd, transferKind, transferFirst, transferEnd, sizeFields, commandFields, settingsFields, thermalFields, fillFields, slotAt, slotFields, slotOf, slotsFields, headFields, encode, stageOf, fillOf, transferOf, flagOf, stageAt, transferAt, decode}
 
@@ -208,10 +209,6 @@ module _ (c : Contents) (v : ContentsFit c) where
       ∙ table-says .historyAt
 
 -- ---- cases are read back
-
-flag-back : (b : Bool) → flagOf (bit b) ≡ b
-flag-back true = refl
-flag-back false = refl
 
 stage-back : (s : Stage) → stageOf (stageNumber s) ≡ s
 stage-back empty = refl
