@@ -19,8 +19,8 @@ data-part a p i n fits within =
     part-part (slotBytes p a) registersSize sectorSize i n within
     ∙ part-part a (slotPlace p) slotSize (registersSize + i) n fits
 
-pub pattern-stored : (a : List ℕ) (p : ℕ) → sets a 2112 (repeated 128 (part a (528 * p + 36) 4)) ≡ sets a fillPlace (patternSector (dataOf (slotBytes p a)))
+pub pattern-stored : (a : List ℕ) (p : ℕ) → sets a fillPlace (repeated 128 (part a (slotPlace p + (registersSize + 20)) 4)) ≡ sets a fillPlace (patternSector (dataOf (slotBytes p a)))
 pattern-stored a p = ap (λ (l : List ℕ). sets a fillPlace (repeated 128 l)) (sym (data-part a p 20 4 (omega arith) (omega arith)))
 
-pub data-stored : (a : List ℕ) (p : ℕ) → sets a 2112 (part a (528 * p + 16) 512) ≡ sets a fillPlace (dataOf (slotBytes p a))
+pub data-stored : (a : List ℕ) (p : ℕ) → sets a fillPlace (part a (slotPlace p + registersSize) sectorSize) ≡ sets a fillPlace (dataOf (slotBytes p a))
 data-stored a p = ap (sets a fillPlace) (sym (part-part a (slotPlace p) slotSize registersSize sectorSize (omega arith)))

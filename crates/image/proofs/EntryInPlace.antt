@@ -22,7 +22,7 @@ use Rattle.wire.proofs.FormUnique.{form-unique}
 use Rattle.wire.proofs.BytesLaws.{bytes-part, all-zero-true, zero-all-true, same-refl, same-true}
 use Rattle.model.specs.Sizes.{sectorSize, historySize, bodySize, trailerSize, entrySize, entryLimit}
 use Rattle.model.specs.Temperature.{tableIntervalPlace, tableIndexPlace, tableHeadSize, tableBytes}
-use Rattle.model.specs.Image.{Saved, nativePlace, visiblePlace, flagPlace, lifePlace, cachePlace, reorderingPlace, intervalPlace, marksPlace, zerosPlace, headSize, headFields, bodyBytes, hasBit, savedAt, inRange, bodyHolds, tag, trailerPlace, previousPlace, linkPlace, numberPlace, tagPlace, trailerFields, trailerBytes, alike, entryHolds}
+use Rattle.model.specs.Image.{Saved, nativePlace, visiblePlace, flagPlace, lifePlace, cachePlace, reorderingPlace, intervalPlace, optionsPlace, zerosPlace, headSize, headFields, bodyBytes, hasBit, savedAt, inRange, bodyHolds, tag, trailerPlace, previousPlace, linkPlace, numberPlace, tagPlace, trailerFields, trailerBytes, alike, entryHolds}
 use Rattle.model.proofs.FormatLaws.{table-at}
 use Rattle.model.proofs.EntryLaws.{SavedFits, saved-at, read-fits}
 use Rattle.model.proofs.EntryFormat.{BodyAt, body-at, get-trailer, trailer-fields}
@@ -59,9 +59,9 @@ module _ (image : List ℕ) (at : ℕ) (b : Bytes image) (fits : at + bodySize �
   front : (k i : ℕ) → i + k ≤ headSize → get k head i ≡ get k image (at + i)
   front k i h = get-part k image at headSize i h
 
-  head-read : leb (get 1 image (at + flagPlace)) 1 ≡ true → leb (get 1 image (at + marksPlace)) 7 ≡ true → Reads (headFields (savedAt image at)) head
+  head-read : leb (get 1 image (at + flagPlace)) 1 ≡ true → leb (get 1 image (at + optionsPlace)) 7 ≡ true → Reads (headFields (savedAt image at)) head
   unfolding savedAt
-  head-read flag marks = (
+  head-read flag options = (
     front 8 nativePlace (omega arith),
     (
       front 8 visiblePlace (omega arith),
@@ -75,7 +75,7 @@ module _ (image : List ℕ) (at : ℕ) (b : Bytes image) (fits : at + bodySize �
               front 2 reorderingPlace (omega arith),
               (
                 front 2 intervalPlace (omega arith),
-                (front 1 marksPlace (omega arith) ∙ options-exact (get 1 image (at + marksPlace)) (leb-true (get 1 image (at + marksPlace)) 7 marks), tt),
+                (front 1 optionsPlace (omega arith) ∙ options-exact (get 1 image (at + optionsPlace)) (leb-true (get 1 image (at + optionsPlace)) 7 options), tt),
               ),
             ),
           ),
@@ -102,7 +102,7 @@ module _ (image : List ℕ) (at : ℕ) (b : Bytes image) (fits : at + bodySize �
 
 record BodyTests (image : List ℕ) (at : ℕ) : Type 0 where
   flag : leb (get 1 image (at + flagPlace)) 1 ≡ true
-  marks : leb (get 1 image (at + marksPlace)) 7 ≡ true
+  options : leb (get 1 image (at + optionsPlace)) 7 ≡ true
   zeroes : allZero (part image (at + zerosPlace) zerosSize) ≡ true
   fixed : tableFixed image (at + headSize) ≡ true
   interval : get 2 image (at + (headSize + tableIntervalPlace)) ≡ get 2 image (at + intervalPlace)
@@ -112,7 +112,7 @@ tests-hold : (image : List ℕ) (at : ℕ) → bodyInPlace image at ≡ true →
 unfolding bodyInPlace
 tests-hold image at h =
     let a = leb (get 1 image (at + flagPlace)) 1 in
-    let b = leb (get 1 image (at + marksPlace)) 7 in
+    let b = leb (get 1 image (at + optionsPlace)) 7 in
     let c = allZero (part image (at + zerosPlace) zerosSize) in
     let d = tableFixed image (at + headSize) in
     let e = eqb (get 2 image (at + (headSize + tableIntervalPlace))) (get 2 image (at + intervalPlace)) in
@@ -120,7 +120,7 @@ tests-hold image at h =
     let v = and-three (a && b) c d (w .0) in
     record {
       flag = and-left a b (v .0);
-      marks = and-right a b (v .0);
+      options = and-right a b (v .0);
       zeroes = v .1;
       fixed = v .2;
       interval = eqb-true (get 2 image (at + (headSize + tableIntervalPlace))) (get 2 image (at + intervalPlace)) (w .1);
@@ -130,7 +130,7 @@ tests-hold image at h =
 hold-tests : (image : List ℕ) (at : ℕ) → BodyTests image at → bodyInPlace image at ≡ true
 unfolding bodyInPlace
 hold-tests image at t =
-    rw (t .flag, t .marks, t .zeroes, t .fixed, eq-eqb (get 2 image (at + (headSize + tableIntervalPlace))) (get 2 image (at + intervalPlace)) (t .interval), t .ranged)
+    rw (t .flag, t .options, t .zeroes, t .fixed, eq-eqb (get 2 image (at + (headSize + tableIntervalPlace))) (get 2 image (at + intervalPlace)) (t .interval), t .ranged)
 
 module _ (image : List ℕ) (at : ℕ) (b : Bytes image) (fits : at + bodySize ≤ length image) where
   -- from the tests to the body
@@ -140,7 +140,7 @@ module _ (image : List ℕ) (at : ℕ) (b : Bytes image) (fits : at + bodySize �
       let s = savedAt image at in
       let front =
       form-unique headSize (headFields s) (part image at headSize) (bytes-part image at headSize b) (length-part image at headSize (omega arith)) refl
-      (head-read image at b fits (t .flag) (t .marks)) (head-rest image at b fits (t .zeroes)) in
+      (head-read image at b fits (t .flag) (t .options)) (head-rest image at b fits (t .zeroes)) in
       let table = table-is image (at + headSize) b (omega arith) (t .fixed) in
       sym
       (take-add headSize sectorSize (drop at image)
@@ -168,12 +168,12 @@ module _ (image : List ℕ) (at : ℕ) (b : Bytes image) (fits : at + bodySize �
       let table : part image (at + headSize) sectorSize ≡ tableBytes (s .logInterval .state) (s .index) (s .history) =
       sym (part-part image at bodySize headSize sectorSize (omega arith)) ∙ says .table in
       let flag : get 1 image (at + flagPlace) ≡ bit (s .initialized) = number 1 flagPlace (omega arith) ∙ says .flag in
-      let marks = number 1 marksPlace (omega arith) ∙ says .options in
+      let options = number 1 optionsPlace (omega arith) ∙ says .options in
       record {
         flag = le-leb (get 1 image (at + flagPlace)) 1 (omega (arith, flag, bit-small (s .initialized)));
-        marks =
-            le-leb (get 1 image (at + marksPlace)) 7
-            (omega (arith, marks, bit-small (s .writeCache .persistent), bit-small (s .reordering .persistent), bit-small (s .logInterval .persistent)));
+        options =
+            le-leb (get 1 image (at + optionsPlace)) 7
+            (omega (arith, options, bit-small (s .writeCache .persistent), bit-small (s .reordering .persistent), bit-small (s .logInterval .persistent)));
         zeroes =
             zero-all-true (part image (at + zerosPlace) zerosSize)
             (λ i h.

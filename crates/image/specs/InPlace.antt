@@ -9,14 +9,14 @@ use Rattle.wire.specs.Parts.{part}
 use Rattle.wire.specs.Bytes.{same, allZero}
 use Rattle.model.specs.Sizes.{bodySize}
 use Rattle.model.specs.Temperature.{tableIntervalPlace}
-use Rattle.model.specs.Image.{flagPlace, intervalPlace, marksPlace, zerosPlace, headSize, savedAt, inRange, tag, previousPlace, linkPlace, numberPlace, tagPlace}
+use Rattle.model.specs.Image.{flagPlace, intervalPlace, optionsPlace, zerosPlace, headSize, savedAt, inRange, tag, previousPlace, linkPlace, numberPlace, tagPlace}
 use Rattle.store.specs.InPlace.{tableFixed}
 
 -- "values in range, zeros zero, table interval equal to feature 3"
 unfoldable pub bodyInPlace : List ℕ → ℕ → Bool
 bodyInPlace image at =
     leb (get 1 image (at + flagPlace)) 1
-    && leb (get 1 image (at + marksPlace)) 7
+    && leb (get 1 image (at + optionsPlace)) 7
     && allZero (part image (at + zerosPlace) (headSize - zerosPlace))
     && tableFixed image (at + headSize)
     && eqb (get 2 image (at + (headSize + tableIntervalPlace))) (get 2 image (at + intervalPlace))

@@ -51,13 +51,13 @@ fn body_holds(image: &[u8], at: usize) -> bool
     ensures { λ r. ⌜ r ≡ bodyInPlace (now (image .entry)) at ⌝ }
 {
     let flag = wire::u8_at(image, at + entry::FLAG_AT);
-    let marks = wire::u8_at(image, at + entry::MARKS_AT);
+    let options = wire::u8_at(image, at + entry::OPTIONS_AT);
     let zero = runs::is_zero(image, at + entry::ZEROS_AT, entry::ZEROS);
     let fixed = soundness::table_fixed(image, at + entry::TABLE_AT);
     let logged = wire::u16_at(image, at + entry::LOGGED_AT);
     let state = wire::u16_at(image, at + entry::INTERVAL_AT);
     let ranged = values_in_range(image, at);
-    (flag <= 1) & (marks <= 7) & zero & fixed & (logged == state) & ranged
+    (flag <= 1) & (options <= 7) & zero & fixed & (logged == state) & ranged
 }
 
 // "all entries have the same N": whether the body at `at` is alike that of the newest entry, whose N is `native`.

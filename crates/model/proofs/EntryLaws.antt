@@ -20,7 +20,7 @@ use Rattle.wire.proofs.BytesLaws.{bytes-nil, bytes-cons, bytes-append, bytes-fo
 use Rattle.model.specs.Sizes.{sectorSize, nativeLimit, historySize, bodySize, trailerSize}
 use Rattle.model.specs.Key.{highestState}
 use Rattle.model.specs.Temperature.{tableIndexPlace, tableHeadSize, tableFields, tableBytes}
-use Rattle.model.specs.Image.{Saved, nativePlace, visiblePlace, flagPlace, lifePlace, cachePlace, reorderingPlace, intervalPlace, marksPlace, headSize, headFields, bodyBytes, hasBit, savedAt, savedIn, inRange, bodyHolds, tag, tagPlace, trailerFields, trailerBytes, alike}
+use Rattle.model.specs.Image.{Saved, nativePlace, visiblePlace, flagPlace, lifePlace, cachePlace, reorderingPlace, intervalPlace, optionsPlace, headSize, headFields, bodyBytes, hasBit, savedAt, savedIn, inRange, bodyHolds, tag, tagPlace, trailerFields, trailerBytes, alike}
 use Rattle.model.specs.Valid.{StateValid}
 use Rattle.model.proofs.FormatLaws.{table-reads, table-bytes}
 
@@ -61,13 +61,13 @@ head-reads s f =
     let head = form headSize (headFields s) in
     reads-front (headFields s) 0 headSize head (tableBytes (s .logInterval .state) (s .index) (s .history)) refl (rw (length-form headSize (headFields s)) (omega arith))
     (reads-form headSize (headFields s) refl
-    (f .native, (f .visible, (flag, (f .lifeMaximum, (f .writeCache, (f .reordering, (f .logInterval, (marks, tt)))))))))
+    (f .native, (f .visible, (flag, (f .lifeMaximum, (f .writeCache, (f .reordering, (f .logInterval, (options, tt)))))))))
   where
     flag : bit (s .initialized) < 256 ^ 1
     flag = omega (arith, bit-small (s .initialized))
 
-    marks : bit (s .writeCache .persistent) + 2 * bit (s .reordering .persistent) + 4 * bit (s .logInterval .persistent) < 256 ^ 1
-    marks = omega (arith, bit-small (s .writeCache .persistent), bit-small (s .reordering .persistent), bit-small (s .logInterval .persistent))
+    options : bit (s .writeCache .persistent) + 2 * bit (s .reordering .persistent) + 4 * bit (s .logInterval .persistent) < 256 ^ 1
+    options = omega (arith, bit-small (s .writeCache .persistent), bit-small (s .reordering .persistent), bit-small (s .logInterval .persistent))
 
 -- .. and the table's index
 index-read : (s : Saved) → SavedFits s → get 2 (bodyBytes s) (headSize + tableIndexPlace) ≡ s .index
@@ -111,16 +111,16 @@ saved-back s f =
     let features = sizes .1 .1 .1 .1 in
     let flag = ap (λ (x : ℕ). eqb x 1) (sizes .1 .1 .0) ∙ flag-back (s .initialized) in
     let byte = features .1 .1 .1 .0 in
-    let marks = options-back (s .writeCache .persistent) (s .reordering .persistent) (s .logInterval .persistent) in
+    let options = options-back (s .writeCache .persistent) (s .reordering .persistent) (s .logInterval .persistent) in
     λ i.
     record {
       native = sizes .0 i;
       visible = sizes .1 .0 i;
       initialized = flag i;
       lifeMaximum = sizes .1 .1 .1 .0 i;
-      writeCache = record { state = features .0 i; persistent = (ap (hasBit 1) byte ∙ marks .0) i };
-      reordering = record { state = features .1 .0 i; persistent = (ap (hasBit 2) byte ∙ marks .1) i };
-      logInterval = record { state = features .1 .1 .0 i; persistent = (ap (hasBit 4) byte ∙ marks .2) i };
+      writeCache = record { state = features .0 i; persistent = (ap (hasBit 1) byte ∙ options .0) i };
+      reordering = record { state = features .1 .0 i; persistent = (ap (hasBit 2) byte ∙ options .1) i };
+      logInterval = record { state = features .1 .1 .0 i; persistent = (ap (hasBit 4) byte ∙ options .2) i };
       history = part-history s (f .whole) i;
       index = index-read s f i;
     }
@@ -130,16 +130,16 @@ pub saved-at : (run : List ℕ) (at : ℕ) → savedIn (part run at bodySize) �
 unfolding savedAt
 saved-at run at =
     let number : (k i : ℕ) → i + k ≤ bodySize → get k (part run at bodySize) i ≡ get k run (at + i) = λ k i h. get-part k run at bodySize i h in
-    let marks = number 1 marksPlace (omega arith) in
+    let options = number 1 optionsPlace (omega arith) in
     λ j.
     record {
       native = number 8 nativePlace (omega arith) j;
       visible = number 8 visiblePlace (omega arith) j;
       initialized = eqb (number 1 flagPlace (omega arith) j) 1;
       lifeMaximum = number 1 lifePlace (omega arith) j;
-      writeCache = record { state = number 2 cachePlace (omega arith) j; persistent = hasBit 1 (marks j) };
-      reordering = record { state = number 2 reorderingPlace (omega arith) j; persistent = hasBit 2 (marks j) };
-      logInterval = record { state = number 2 intervalPlace (omega arith) j; persistent = hasBit 4 (marks j) };
+      writeCache = record { state = number 2 cachePlace (omega arith) j; persistent = hasBit 1 (options j) };
+      reordering = record { state = number 2 reorderingPlace (omega arith) j; persistent = hasBit 2 (options j) };
+      logInterval = record { state = number 2 intervalPlace (omega arith) j; persistent = hasBit 4 (options j) };
       history = part-part run at bodySize (headSize + tableHeadSize) historySize (omega arith) j;
       index = number 2 (headSize + tableIndexPlace) (omega arith) j;
     }

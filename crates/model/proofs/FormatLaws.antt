@@ -18,7 +18,7 @@ use Rattle.wire.proofs.NumbersLaws.{get-append-left}
 use Rattle.wire.proofs.PartsLaws.{part-append-right, length-padded, length-zeros}
 use Rattle.wire.proofs.LayoutLaws.{length-form, reads-form, reads-front, form-outside}
 use Rattle.wire.proofs.BytesLaws.{bytes-append, bytes-form, bytes-padded}
-use Rattle.model.specs.Sizes.{sectorSize, nativeLimit, registersSize, mailboxSize, historySize}
+use Rattle.model.specs.Sizes.{sectorSize, nativeLimit, registersSize, mailboxSize, historySize, dataSize}
 use Rattle.model.specs.Device.{Fill, idle, running, Device}
 use Rattle.model.specs.Status.{driveState, currentLba, statusFields, statusSector}
 use Rattle.model.specs.Temperature.{tableFields, tableHeadSize, tableBytes}
@@ -222,11 +222,11 @@ pub length-registers : (r : Registers) → length (registersBytes r) ≡ registe
 unfolding registersBytes
 length-registers r = length-form registersSize (registersFields r)
 
-pub reply-length : (r : Registers) (s : List ℕ) → length s ≤ sectorSize → length (replyBytes r s) ≡ mailboxSize
+pub reply-length : (r : Registers) (s : List ℕ) → length s ≤ dataSize → length (replyBytes r s) ≡ mailboxSize
 unfolding replyBytes
 reply-length r s h = length-padded mailboxSize (registersBytes r ++ s) (rw (length-append, length-registers r) (omega arith))
 
-pub reply-at : (r : Registers) (s : List ℕ) → RegistersFit r → length s ≤ sectorSize → ReplyAt r (replyBytes r s)
+pub reply-at : (r : Registers) (s : List ℕ) → RegistersFit r → length s ≤ dataSize → ReplyAt r (replyBytes r s)
 unfolding registersBytes
 reply-at r s f h =
     let fit : Fit (registersFields r) = (omega arith, (omega (arith, f .value), (f .sectors, (f .status, (f .error, tt))))) in
@@ -261,7 +261,7 @@ reply-no-data r =
     ∙ ap (λ (n : ℕ). part (registersBytes r ++ zeros (mailboxSize - n)) registersSize sectorSize) (ap length (append-nil (registersBytes r)) ∙ length-registers r)
     ∙ part-append-right (registersBytes r) (zeros sectorSize) registersSize sectorSize (length-registers r) (length-zeros sectorSize)
 
-pub reply-sized : (r : Registers) (s : List ℕ) → length s ≤ sectorSize → Bytes s → Sized mailboxSize (replyBytes r s)
+pub reply-sized : (r : Registers) (s : List ℕ) → length s ≤ dataSize → Bytes s → Sized mailboxSize (replyBytes r s)
 unfolding replyBytes registersBytes
 reply-sized r s h b =
     record {

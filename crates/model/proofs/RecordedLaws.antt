@@ -5,7 +5,7 @@ use native.Mathlib.Omega.{arith}
 use mathlib.Core.List.{List}
 use Rattle.wire.specs.Numbers.{get}
 use Rattle.wire.proofs.PartsLaws.{get-part}
-use Rattle.model.specs.Sizes.{portCount}
+use Rattle.model.specs.Sizes.{portCount, registersSize, sectorSize}
 use Rattle.model.specs.Device.{Fill, idle, running, Device}
 use Rattle.model.specs.Registers.{keySector, dataOf, requestOf}
 use Rattle.model.specs.Key.{word, FeatureName, writeCache, reordering, logInterval, fillPattern, fillSector, setTimer, returnTimer, setFeature, returnState, returnOption, sendTable, Verdict, accepted, rejected}
@@ -21,10 +21,10 @@ pub record Recorded (d : Device) (action function : ℕ) : Type 0 where
 
 module _ (s : Serving) (M : Machine) (m : List ℕ) (port : s .port < portCount) (held : M .ports (s .port) ≡ request m) where
   word-zero : word (dataOf m) 0 ≡ get 2 m 16
-  word-zero = get-part 2 m 16 512 0 (omega arith)
+  word-zero = get-part 2 m registersSize sectorSize 0 (omega arith)
 
   word-one : word (dataOf m) 1 ≡ get 2 m 18
-  word-one = get-part 2 m 16 512 2 (omega arith)
+  word-one = get-part 2 m registersSize sectorSize 2 (omega arith)
 
   from : (d : Device) → serveOn s M .state .device ≡ d → d .command .action ≡ word (dataOf m) 0 → d .command .function ≡ word (dataOf m) 1
       → Recorded (serveOn s M .state .device) (get 2 m 16) (get 2 m 18)

@@ -16,6 +16,7 @@ use Rattle.model.specs.Image.{powerOn, restored}
 use Rattle.model.specs.Machine.{Machine}
 use Rattle.model.specs.Step.{Step, take, serve, give, Seen, Outcome, step, trace, served, serveDecided, poweredOn, answerOnly, answeredMailbox}
 use Rattle.model.specs.Examples.{Example, evaluate, starred, keyMailbox, fillKey}
+use Rattle.model.specs.Sizes.{mailboxSize, sectorSize}
 
 -- THEOREM: every starred example comes out as 01 says.
 pub starred-hold : map (λ (e : Example × List ℕ). evaluate (e .0)) starred ≡ map (λ (e : Example × List ℕ). e .1) starred
@@ -24,10 +25,10 @@ starred-hold = refl
 
 -- "Start 64, Count 0: 0002h", from the mailbox through take, serve and give to the mailbox of the reply
 pub end-to-end : map (λ (o : Outcome Machine). o .seen)
-    (trace step (take 0 (keyMailbox (fillKey 64 0)) ∷ serve (record { port = 0 }) ∷ give 0 (zeros 528) ∷ []) (poweredOn (record { sectors = zeros (512 * 64) }) [] 0))
+    (trace step (take 0 (keyMailbox (fillKey 64 0)) ∷ serve (record { port = 0 }) ∷ give 0 (zeros mailboxSize) ∷ []) (poweredOn (record { sectors = zeros (sectorSize * 64) }) [] 0))
     ≡ answeredMailbox 0 (keyMailbox (fillKey 64 0))
     ∷ answerOnly 0
-    ∷ answeredMailbox 0 (form 528 ((2, 1, 0x02) ∷ (12, 1, 0x51) ∷ (13, 1, 0x04) ∷ []))
+    ∷ answeredMailbox 0 (form mailboxSize ((2, 1, 0x02) ∷ (12, 1, 0x51) ∷ (13, 1, 0x04) ∷ []))
     ∷ []
 unfolding le get put form padded logPage smartLog requestOf registersBytes replyBytes keyChecks actionOf judgeKey interrupt carryOut decideKey decide powerOn restored step served serveDecided poweredOn
 end-to-end = refl

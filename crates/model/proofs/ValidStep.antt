@@ -16,7 +16,7 @@ use Rattle.wire.proofs.ChoiceLaws.{and-left, and-right, between-true, all-pass}
 use Rattle.wire.proofs.NumbersLaws.{getD-sets-before, getD-sets-after}
 use Rattle.wire.proofs.PartsLaws.{length-part, drop-sets-after}
 use Rattle.wire.proofs.BytesLaws.{bytes-nil, bytes-part, bytes-sets, bytes-form}
-use Rattle.model.specs.Sizes.{sectorSize, mailboxSize, portCount, nativeLimit, historySize}
+use Rattle.model.specs.Sizes.{sectorSize, dataSize, mailboxSize, portCount, nativeLimit, historySize}
 use Rattle.model.specs.Device.{Fill, idle, running, Device}
 use Rattle.model.specs.Disk.{Disk, withSector}
 use Rattle.model.specs.Update.{withInitialized, withLocked, withFill}
@@ -74,9 +74,9 @@ written-sizes noWrite v = (refl, refl)
 written-sizes (oneSector lba sector) v = (refl, refl)
 written-sizes (newFill first end sector) v = (refl, refl)
 
--- what a reply carries is at most a sector of bytes
+-- what a reply carries are bytes that fit a mailbox
 abbrev SentValid : List ℕ → Type 0
-SentValid l = (length l ≤ sectorSize) × Bytes l
+SentValid l = (length l ≤ dataSize) × Bytes l
 
 sent-valid : (x : Sending) (v : Volume) → VolumeValid v → SendingValid (v .device .visible) x → SentValid (sent x (v .device) (contentRead x (v .disk)))
 unfolding statusSector

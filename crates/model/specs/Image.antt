@@ -67,8 +67,8 @@ reorderingPlace = 20
 abbrev pub intervalPlace : ℕ
 intervalPlace = 22
 
-abbrev pub marksPlace : ℕ
-marksPlace = 24
+abbrev pub optionsPlace : ℕ
+optionsPlace = 24
 
 abbrev pub zerosPlace : ℕ
 zerosPlace = 25
@@ -87,7 +87,7 @@ featuresOf s =
     (cachePlace, 2, s .writeCache .state)
     ∷ (reorderingPlace, 2, s .reordering .state)
     ∷ (intervalPlace, 2, s .logInterval .state)
-    ∷ (marksPlace, 1, bit (s .writeCache .persistent) + 2 * bit (s .reordering .persistent) + 4 * bit (s .logInterval .persistent))
+    ∷ (optionsPlace, 1, bit (s .writeCache .persistent) + 2 * bit (s .reordering .persistent) + 4 * bit (s .logInterval .persistent))
     ∷ []
 
 abbrev pub headFields : Saved → List Field
@@ -103,15 +103,15 @@ hasBit weight byte = eqb (byte / weight % 2) 1
 -- what the fields of a body say that stands at a place of a run
 unfoldable pub savedAt : List ℕ → ℕ → Saved
 savedAt run at =
-    let marks = get 1 run (at + marksPlace) in
+    let options = get 1 run (at + optionsPlace) in
     record {
       native = get 8 run (at + nativePlace);
       visible = get 8 run (at + visiblePlace);
       initialized = eqb (get 1 run (at + flagPlace)) 1;
       lifeMaximum = get 1 run (at + lifePlace);
-      writeCache = record { state = get 2 run (at + cachePlace); persistent = hasBit 1 marks };
-      reordering = record { state = get 2 run (at + reorderingPlace); persistent = hasBit 2 marks };
-      logInterval = record { state = get 2 run (at + intervalPlace); persistent = hasBit 4 marks };
+      writeCache = record { state = get 2 run (at + cachePlace); persistent = hasBit 1 options };
+      reordering = record { state = get 2 run (at + reorderingPlace); persistent = hasBit 2 options };
+      logInterval = record { state = get 2 run (at + intervalPlace); persistent = hasBit 4 options };
       history = part run (at + (headSize + tableHeadSize)) historySize;
       index = get 2 run (at + (headSize + tableIndexPlace));
     }

@@ -16,8 +16,12 @@ portCount = 4
 abbrev pub registersSize : ℕ
 registersSize = 16
 
+-- the data of a mailbox: as many bytes as the longest transfer has
+abbrev pub dataSize : ℕ
+dataSize = sectorSize
+
 abbrev pub mailboxSize : ℕ
-mailboxSize = registersSize + sectorSize
+mailboxSize = registersSize + dataSize
 
 -- "size 478 at 30; .. history from 34"
 abbrev pub historySize : ℕ

@@ -9,7 +9,7 @@ use Rattle.wire.specs.Layout.{form}
 use Rattle.wire.specs.Parts.{part}
 use Rattle.wire.proofs.LayoutLaws.{length-form}
 use Rattle.wire.proofs.WithinLaws.{sets-apart}
-use Rattle.model.specs.Sizes.{sectorSize, portCount, mailboxSize, historySize}
+use Rattle.model.specs.Sizes.{sectorSize, dataSize, portCount, mailboxSize, historySize}
 use Rattle.model.specs.Device.{Device}
 use Rattle.model.specs.Disk.{Disk}
 use Rattle.model.specs.Registers.{Registers}
@@ -68,13 +68,13 @@ content-short status disk = omega arith
 content-short temperatures disk = omega arith
 content-short (diskSector lba) disk = rw length-take (omega arith)
 
-sent-short : (x : Sending) (d : Device) (content : List ℕ) → length (d .thermal .history) ≡ historySize → length content ≤ sectorSize → length (sent x d content) ≤ sectorSize
+sent-short : (x : Sending) (d : Device) (content : List ℕ) → length (d .thermal .history) ≡ historySize → length content ≤ sectorSize → length (sent x d content) ≤ dataSize
 unfolding statusSector tableBytes
 sent-short noData d content h k = omega arith
 sent-short status d content h k = rw (length-form sectorSize (statusFields d)) (omega arith)
 sent-short temperatures d content h k =
     rw (length-append, length-form tableHeadSize (tableFields (d .settings .logInterval .state) (d .thermal .index)), h) (omega arith)
-sent-short (diskSector lba) d content h k = k
+sent-short (diskSector lba) d content h k = omega (arith, k)
 
 pub reply-size : (q : Registers) (x : Sending) (d : Device) (disk : Disk) → length (d .thermal .history) ≡ historySize
     → length (replyWith q x d (contentRead x disk)) ≡ mailboxSize

@@ -9,34 +9,34 @@ use lib.Seq.{sets}
 use Rattle.wire.specs.Parts.{zeros, padded}
 use Rattle.wire.specs.Layout.{Field, stores, form, ordered, placed}
 use Rattle.wire.proofs.LayoutLaws.{length-form}
-use Rattle.model.specs.Sizes.{sectorSize, registersSize, mailboxSize}
+use Rattle.model.specs.Sizes.{sectorSize, dataSize, registersSize, mailboxSize}
 use Rattle.model.specs.Registers.{Registers, registersBytes, replyBytes}
 use Rattle.wire.proofs.WithinLaws.{sets-then, form-within}
 use Rattle.model.proofs.FormatLaws.{length-registers}
 
-reply-full : (r : Registers) (s : List ℕ) → length s ≡ sectorSize → registersBytes r ++ s ≡ replyBytes r s
+reply-full : (r : Registers) (s : List ℕ) → length s ≡ dataSize → registersBytes r ++ s ≡ replyBytes r s
 unfolding replyBytes padded
 reply-full r s h =
     let none : mailboxSize - length (registersBytes r ++ s) ≡ 0 = rw (length-append, length-registers r, h) (omega arith) in
     rw (none, append-nil)
 
-reply-clear : (r : Registers) → registersBytes r ++ zeros sectorSize ≡ replyBytes r []
+reply-clear : (r : Registers) → registersBytes r ++ zeros dataSize ≡ replyBytes r []
 unfolding replyBytes padded
 reply-clear r = rw (append-nil, length-registers r)
 
 -- THE LAW of a reply with data: the registers stored, and then the sector behind them
-pub reply-stored : (l : List ℕ) (at : ℕ) (r : Registers) (s : List ℕ) → length s ≡ sectorSize
-    → sets (sets l at (registersBytes r)) (at + 16) s ≡ sets l at (replyBytes r s)
+pub reply-stored : (l : List ℕ) (at : ℕ) (r : Registers) (s : List ℕ) → length s ≡ dataSize
+    → sets (sets l at (registersBytes r)) (at + registersSize) s ≡ sets l at (replyBytes r s)
 reply-stored l at r s h = sets-then (registersBytes r) s l at registersSize (length-registers r) ∙ ap (sets l at) (reply-full r s h)
 
--- .. and without: the sector is zeros
-pub reply-cleared : (l : List ℕ) (at : ℕ) (r : Registers) → sets (sets l at (registersBytes r)) (at + 16) (zeros sectorSize) ≡ sets l at (replyBytes r [])
-reply-cleared l at r = sets-then (registersBytes r) (zeros sectorSize) l at registersSize (length-registers r) ∙ ap (sets l at) (reply-clear r)
+-- .. and without: the data is zeros
+pub reply-cleared : (l : List ℕ) (at : ℕ) (r : Registers) → sets (sets l at (registersBytes r)) (at + registersSize) (zeros dataSize) ≡ sets l at (replyBytes r [])
+reply-cleared l at r = sets-then (registersBytes r) (zeros dataSize) l at registersSize (length-registers r) ∙ ap (sets l at) (reply-clear r)
 
 -- fields stored in the sector of a reply without data: the reply with their form
 pub reply-form : (l : List ℕ) (at : ℕ) (r : Registers) (fs : List Field) → ordered 0 sectorSize fs ≡ true
-    → stores (placed (at + 16) fs) (sets l at (replyBytes r [])) ≡ sets l at (replyBytes r (form sectorSize fs))
+    → stores (placed (at + registersSize) fs) (sets l at (replyBytes r [])) ≡ sets l at (replyBytes r (form sectorSize fs))
 reply-form l at r fs o =
-    ap (stores (placed (at + 16) fs)) (sym (reply-cleared l at r))
-    ∙ form-within sectorSize fs (sets l at (registersBytes r)) (at + 16) o
+    ap (stores (placed (at + registersSize) fs)) (sym (reply-cleared l at r))
+    ∙ form-within sectorSize fs (sets l at (registersBytes r)) (at + registersSize) o
     ∙ reply-stored l at r (form sectorSize fs) (length-form sectorSize fs)

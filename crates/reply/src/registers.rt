@@ -1,7 +1,7 @@
 // A reply: its registers, and the bytes that it is in the slot.
 use runs::zero_part;
+use sizes::DATA;
 use sizes::REGISTERS;
-use sizes::SECTOR;
 use wire::put_u8;
 ghost use mathlib.Core.Path.{_≡_};
 ghost use Prim.Native.Nat.{_+_, _≤_};
@@ -61,7 +61,7 @@ pub fn put_registers(area: &mut [u8], at: usize, r: Reply)
     requires { ⌜ at + mailboxSize ≤ length (now area) ⌝ }
     ensures { λ _. ⌜ now (area .exit) ≡ sets (now (area .entry)) at (registersBytes (asRegisters r)) ⌝ }
 {
-    zero_part(area, at, 16);
+    zero_part(area, at, REGISTERS);
     put_u8(area, at + 2, (r.value % 256) as u8);
     put_u8(area, at + 4, (r.value / 256) as u8);
     put_u8(area, at + 6, r.sectors);
@@ -75,5 +75,5 @@ pub fn put_reply(area: &mut [u8], at: usize, r: Reply)
     ensures { λ _. ⌜ now (area .exit) ≡ sets (now (area .entry)) at (replyBytes (asRegisters r) []) ⌝ }
 {
     put_registers(area, at, r);
-    zero_part(area, at + REGISTERS, SECTOR);
+    zero_part(area, at + REGISTERS, DATA);
 }

@@ -10,15 +10,16 @@ use Rattle.wire.specs.Parts.{part}
 use Rattle.wire.proofs.PartsLaws.{getD-part}
 use Rattle.model.specs.Registers.{lba48}
 use Rattle.model.proofs.RegisterLaws.{lba-bits}
+use Rattle.model.specs.Sizes.{mailboxSize}
 
 one-byte : (l : List ℕ) (i : ℕ) → get 1 l i ≡ getD l i 0
 unfolding get
 one-byte l i = omega arith
 
-pub byte-of : (l : List ℕ) (at i : ℕ) {v : ℕ} → i < 528 → v ≡ get 1 l (at + i) → getD (part l at 528) i 0 ≡ v
-byte-of l at i h e = getD-part l at 528 i h ∙ sym (one-byte l (at + i)) ∙ sym e
+pub byte-of : (l : List ℕ) (at i : ℕ) {v : ℕ} → i < mailboxSize → v ≡ get 1 l (at + i) → getD (part l at mailboxSize) i 0 ≡ v
+byte-of l at i h e = getD-part l at mailboxSize i h ∙ sym (one-byte l (at + i)) ∙ sym e
 
-pub byte-first : (l : List ℕ) (at : ℕ) {v : ℕ} → v ≡ get 1 l at → getD (part l at 528) 0 0 ≡ v
+pub byte-first : (l : List ℕ) (at : ℕ) {v : ℕ} → v ≡ get 1 l at → getD (part l at mailboxSize) 0 0 ≡ v
 byte-first l at e = byte-of l at 0 (omega arith) (rw (add-zero at) e)
 
 -- "previous bytes giving bits 24 to 47": the LBA from the number of its current bytes and that of its previous ones

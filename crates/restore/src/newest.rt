@@ -41,18 +41,18 @@ fn saved_settings(image: &[u8], at: usize) -> Settings
     requires { ⌜ at + bodySize ≤ length (now image) ⌝ }
     ensures { λ r. ⌜ asSettings r ≡ powerOnSettings (savedAt (now (image .entry)) at) ⌝ }
 {
-    let marks = wire::u8_at(image, at + entry::MARKS_AT);
+    let options = wire::u8_at(image, at + entry::OPTIONS_AT);
     let cache = Feature {
         state: wire::u16_at(image, at + entry::CACHE_AT),
-        persistent: has_bit(1, marks),
+        persistent: has_bit(1, options),
     };
     let reordering = Feature {
         state: wire::u16_at(image, at + entry::REORDERING_AT),
-        persistent: has_bit(2, marks),
+        persistent: has_bit(2, options),
     };
     let interval = Feature {
         state: wire::u16_at(image, at + entry::INTERVAL_AT),
-        persistent: has_bit(4, marks),
+        persistent: has_bit(4, options),
     };
     Settings::power_on(
         Settings::POWER_ON_TIMER,

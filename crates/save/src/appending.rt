@@ -46,7 +46,7 @@ fn flag_bit(r: &[u8], at: usize) -> u8
 }
 
 // "kept marks in bits 0 to 2 of byte 24"
-fn marks(r: &[u8]) -> u8
+fn options(r: &[u8]) -> u8
     requires { ⌜ length (now r) ≡ recordSize ⌝ }
     ensures { λ res. ⌜ res ≡ bit (flagOf (get 1 (now (r .entry)) 34)) + 2 * bit (flagOf (get 1 (now (r .entry)) 35)) + 4 * bit (flagOf (get 1 (now (r .entry)) 36)) ⌝ }
 {
@@ -77,7 +77,7 @@ fn put_features(image: &mut [u8], at: usize, r: &[u8])
         at + entry::INTERVAL_AT,
         wire::u16_at(r, table::RECORD_INTERVAL_AT),
     );
-    wire::put_u8(image, at + entry::MARKS_AT, marks(r));
+    wire::put_u8(image, at + entry::OPTIONS_AT, options(r));
 }
 
 // "A save adds one entry behind the used length; other bytes stay."

@@ -17,7 +17,7 @@ pub const REORDERING_AT: usize = 20;
 
 pub const INTERVAL_AT: usize = 22;
 
-pub const MARKS_AT: usize = 24;
+pub const OPTIONS_AT: usize = 24;
 
 pub const ZEROS_AT: usize = 25;
 

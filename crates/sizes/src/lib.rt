@@ -14,7 +14,9 @@ pub const NATIVE_LIMIT: u64 = 65536;
 // "A mailbox is 528 bytes: 16 of registers, then a 512-byte sector." So is a slot.
 pub const REGISTERS: usize = 16;
 
-pub const MAILBOX: usize = REGISTERS + SECTOR;
+pub const DATA: usize = SECTOR;
+
+pub const MAILBOX: usize = REGISTERS + DATA;
 
 // "Private area, 2,624 bytes: four slots of 528, then the fill sector."
 pub const PORTS: usize = 4;

@@ -181,7 +181,7 @@ power-on-exactly r a disk image used = (
 )
 
 -- THEOREM: it does so for every disk of 1 to 65,536 whole sectors with used length 0.
-pub power-on-fresh : (r a disk image : List ℕ) (n : ℕ) → length r ≡ recordSize → length a ≡ privateSize → length disk ≡ 512 * n → 1 ≤ n → n ≤ 65536
+pub power-on-fresh : (r a disk image : List ℕ) (n : ℕ) → length r ≡ recordSize → length a ≡ privateSize → length disk ≡ sectorSize * n → 1 ≤ n → n ≤ nativeLimit
     → powerOnBytes r a disk image 0 .answer ≡ 0
 power-on-fresh r a disk image n size private sectors some most =
     let whole : wholeSectors (length disk) ≡ true = whole-sectors (length disk) .1 (omega arith, omega arith, omega arith) in

@@ -12,6 +12,7 @@ use Rattle.model.specs.Image.{powerOnChecks as diskChecks}
 use Rattle.model.specs.Step.{setVisible, Step, take, serve, give, work, owner, save, powerOn}
 use Rattle.model.specs.Decide.{Serving}
 use Rattle.model.proofs.RefusalLaws.{power-on-disk, power-on-length, power-on-unreadable, power-on-other}
+use Rattle.model.specs.Sizes.{mailboxSize, sectorSize}
 use Rattle.store.specs.Record.{decode}
 use Rattle.store.specs.Sound.{sound}
 use Rattle.store.specs.Store.{Store, stageFor}
@@ -19,6 +20,7 @@ use Rattle.store.specs.Entries.{isEmpty, isHeld, isAnswered}
 use Rattle.store.specs.OnStore.{onStore}
 use Rattle.store.proofs.SoundLaws.{sound-parts}
 use Rattle.store.proofs.AnswerLaws.{entry-answer}
+use Rattle.store.specs.Areas.{privateSize, recordSize}
 
 abbrev pub answerOf : Step → Store → ℕ
 answerOf x s = onStore x s .seen .answer
@@ -26,7 +28,7 @@ answerOf x s = onStore x s .seen .answer
 -- ---- 4: "device record unsound"
 
 -- "a record run of another size is .. 4 elsewhere"
-pub other-size-unsound : (r : List ℕ) → (length r ≡ 1024 → ⊥) → sound r ≡ false
+pub other-size-unsound : (r : List ℕ) → (length r ≡ recordSize → ⊥) → sound r ≡ false
 other-size-unsound r ne = go (sound r) refl
   where
     go : (b : Bool) → sound r ≡ b → sound r ≡ false
@@ -55,60 +57,60 @@ unsound-record (powerOn image used) s j e = absurd j
 -- ---- with a sound record
 
 module _ (s : Store) (isSound : sound (s .recordArea) ≡ true) where
-  -- 2: a mailbox of another length than 528
-  pub take-mailbox : (p : ℕ) (m : List ℕ) → (length m ≡ 528 → ⊥) → answerOf (take p m) s ≡ 2
-  take-mailbox p m ne = entry-answer (take p m) s ∙ rw (isSound, ne-eqb (length m) 528 ne)
+  -- 2: a mailbox of another length than mailboxSize
+  pub take-mailbox : (p : ℕ) (m : List ℕ) → (length m ≡ mailboxSize → ⊥) → answerOf (take p m) s ≡ 2
+  take-mailbox p m ne = entry-answer (take p m) s ∙ rw (isSound, ne-eqb (length m) mailboxSize ne)
 
-  pub give-mailbox : (p : ℕ) (m : List ℕ) → (length m ≡ 528 → ⊥) → answerOf (give p m) s ≡ 2
-  give-mailbox p m ne = entry-answer (give p m) s ∙ rw (isSound, ne-eqb (length m) 528 ne)
+  pub give-mailbox : (p : ℕ) (m : List ℕ) → (length m ≡ mailboxSize → ⊥) → answerOf (give p m) s ≡ 2
+  give-mailbox p m ne = entry-answer (give p m) s ∙ rw (isSound, ne-eqb (length m) mailboxSize ne)
 
   -- 2: a private area of another length than 2,624
-  module _ (other : length (s .privateArea) ≡ 2624 → ⊥) where
-    pub take-private : (p : ℕ) (m : List ℕ) → length m ≡ 528 → answerOf (take p m) s ≡ 2
-    take-private p m e = entry-answer (take p m) s ∙ rw (isSound, eq-eqb (length m) 528 e, ne-eqb (length (s .privateArea)) 2624 other)
+  module _ (other : length (s .privateArea) ≡ privateSize → ⊥) where
+    pub take-private : (p : ℕ) (m : List ℕ) → length m ≡ mailboxSize → answerOf (take p m) s ≡ 2
+    take-private p m e = entry-answer (take p m) s ∙ rw (isSound, eq-eqb (length m) mailboxSize e, ne-eqb (length (s .privateArea)) privateSize other)
 
     pub serve-private : (x : Serving) → answerOf (serve x) s ≡ 2
-    serve-private x = entry-answer (serve x) s ∙ rw (isSound, ne-eqb (length (s .privateArea)) 2624 other)
+    serve-private x = entry-answer (serve x) s ∙ rw (isSound, ne-eqb (length (s .privateArea)) privateSize other)
 
-    pub give-private : (p : ℕ) (m : List ℕ) → length m ≡ 528 → answerOf (give p m) s ≡ 2
-    give-private p m e = entry-answer (give p m) s ∙ rw (isSound, eq-eqb (length m) 528 e, ne-eqb (length (s .privateArea)) 2624 other)
+    pub give-private : (p : ℕ) (m : List ℕ) → length m ≡ mailboxSize → answerOf (give p m) s ≡ 2
+    give-private p m e = entry-answer (give p m) s ∙ rw (isSound, eq-eqb (length m) mailboxSize e, ne-eqb (length (s .privateArea)) privateSize other)
 
     pub work-private : (n : ℕ) → answerOf (work n) s ≡ 2
-    work-private n = entry-answer (work n) s ∙ rw (isSound, ne-eqb (length (s .privateArea)) 2624 other)
+    work-private n = entry-answer (work n) s ∙ rw (isSound, ne-eqb (length (s .privateArea)) privateSize other)
 
-  module _ (private : length (s .privateArea) ≡ 2624) where
+  module _ (private : length (s .privateArea) ≡ privateSize) where
     -- 2: "the disk isn't N sectors"
-    module _ (other : length (s .disk .sectors) ≡ 512 * decode (s .recordArea) .device .native → ⊥) where
+    module _ (other : length (s .disk .sectors) ≡ sectorSize * decode (s .recordArea) .device .native → ⊥) where
       pub serve-disk : (x : Serving) → answerOf (serve x) s ≡ 2
-      serve-disk x = entry-answer (serve x) s ∙ rw (isSound, eq-eqb (length (s .privateArea)) 2624 private, ne-eqb (length (s .disk .sectors)) (512 * decode (s .recordArea) .device .native) other)
+      serve-disk x = entry-answer (serve x) s ∙ rw (isSound, eq-eqb (length (s .privateArea)) privateSize private, ne-eqb (length (s .disk .sectors)) (sectorSize * decode (s .recordArea) .device .native) other)
 
       pub work-disk : (n : ℕ) → answerOf (work n) s ≡ 2
-      work-disk n = entry-answer (work n) s ∙ rw (isSound, eq-eqb (length (s .privateArea)) 2624 private, ne-eqb (length (s .disk .sectors)) (512 * decode (s .recordArea) .device .native) other)
+      work-disk n = entry-answer (work n) s ∙ rw (isSound, eq-eqb (length (s .privateArea)) privateSize private, ne-eqb (length (s .disk .sectors)) (sectorSize * decode (s .recordArea) .device .native) other)
 
     -- 1: "port above 3"; 3: "slot not in the stage the step needs"
-    module _ (p : ℕ) (m : List ℕ) (mailbox : length m ≡ 528) where
+    module _ (p : ℕ) (m : List ℕ) (mailbox : length m ≡ mailboxSize) where
       pub take-port : 4 ≤ p → answerOf (take p m) s ≡ 1
-      take-port h = entry-answer (take p m) s ∙ rw (isSound, eq-eqb (length m) 528 mailbox, eq-eqb (length (s .privateArea)) 2624 private, le-ltb p 4 h)
+      take-port h = entry-answer (take p m) s ∙ rw (isSound, eq-eqb (length m) mailboxSize mailbox, eq-eqb (length (s .privateArea)) privateSize private, le-ltb p 4 h)
 
       pub take-stage : p < 4 → isEmpty (stageFor p (decode (s .recordArea))) ≡ false → answerOf (take p m) s ≡ 3
-      take-stage h k = entry-answer (take p m) s ∙ rw (isSound, eq-eqb (length m) 528 mailbox, eq-eqb (length (s .privateArea)) 2624 private, lt-ltb p 4 h, k)
+      take-stage h k = entry-answer (take p m) s ∙ rw (isSound, eq-eqb (length m) mailboxSize mailbox, eq-eqb (length (s .privateArea)) privateSize private, lt-ltb p 4 h, k)
 
       pub give-port : 4 ≤ p → answerOf (give p m) s ≡ 1
-      give-port h = entry-answer (give p m) s ∙ rw (isSound, eq-eqb (length m) 528 mailbox, eq-eqb (length (s .privateArea)) 2624 private, le-ltb p 4 h)
+      give-port h = entry-answer (give p m) s ∙ rw (isSound, eq-eqb (length m) mailboxSize mailbox, eq-eqb (length (s .privateArea)) privateSize private, le-ltb p 4 h)
 
       pub give-stage : p < 4 → isAnswered (stageFor p (decode (s .recordArea))) ≡ false → answerOf (give p m) s ≡ 3
-      give-stage h k = entry-answer (give p m) s ∙ rw (isSound, eq-eqb (length m) 528 mailbox, eq-eqb (length (s .privateArea)) 2624 private, lt-ltb p 4 h, k)
+      give-stage h k = entry-answer (give p m) s ∙ rw (isSound, eq-eqb (length m) mailboxSize mailbox, eq-eqb (length (s .privateArea)) privateSize private, lt-ltb p 4 h, k)
 
-    module _ (x : Serving) (whole : length (s .disk .sectors) ≡ 512 * decode (s .recordArea) .device .native) where
+    module _ (x : Serving) (whole : length (s .disk .sectors) ≡ sectorSize * decode (s .recordArea) .device .native) where
       pub serve-port : 4 ≤ x .port → answerOf (serve x) s ≡ 1
       serve-port h =
           entry-answer (serve x) s
-          ∙ rw (isSound, eq-eqb (length (s .privateArea)) 2624 private, eq-eqb (length (s .disk .sectors)) (512 * decode (s .recordArea) .device .native) whole, le-ltb (x .port) 4 h)
+          ∙ rw (isSound, eq-eqb (length (s .privateArea)) privateSize private, eq-eqb (length (s .disk .sectors)) (sectorSize * decode (s .recordArea) .device .native) whole, le-ltb (x .port) 4 h)
 
       pub serve-stage : x .port < 4 → isHeld (stageFor (x .port) (decode (s .recordArea))) ≡ false → answerOf (serve x) s ≡ 3
       serve-stage h k =
           entry-answer (serve x) s
-          ∙ rw (isSound, eq-eqb (length (s .privateArea)) 2624 private, eq-eqb (length (s .disk .sectors)) (512 * decode (s .recordArea) .device .native) whole, lt-ltb (x .port) 4 h, k)
+          ∙ rw (isSound, eq-eqb (length (s .privateArea)) privateSize private, eq-eqb (length (s .disk .sectors)) (sectorSize * decode (s .recordArea) .device .native) whole, lt-ltb (x .port) 4 h, k)
 
   -- 5: "V asked is 0 or above N"
   pub visible-zero : answerOf (owner (setVisible 0)) s ≡ 5
@@ -137,17 +139,17 @@ module _ (s : Store) (isSound : sound (s .recordArea) ≡ true) where
 -- ---- power-on: "a record run of another size is 2 there"
 
 module _ (image : List ℕ) (used : ℕ) (s : Store) where
-  pub on-record : (length (s .recordArea) ≡ 1024 → ⊥) → answerOf (powerOn image used) s ≡ 2
-  on-record ne = entry-answer (powerOn image used) s ∙ rw (ne-eqb (length (s .recordArea)) 1024 ne)
+  pub on-record : (length (s .recordArea) ≡ recordSize → ⊥) → answerOf (powerOn image used) s ≡ 2
+  on-record ne = entry-answer (powerOn image used) s ∙ rw (ne-eqb (length (s .recordArea)) recordSize ne)
 
-  module _ (size : length (s .recordArea) ≡ 1024) where
-    pub on-private : (length (s .privateArea) ≡ 2624 → ⊥) → answerOf (powerOn image used) s ≡ 2
-    on-private ne = entry-answer (powerOn image used) s ∙ rw (eq-eqb (length (s .recordArea)) 1024 size, ne-eqb (length (s .privateArea)) 2624 ne)
+  module _ (size : length (s .recordArea) ≡ recordSize) where
+    pub on-private : (length (s .privateArea) ≡ privateSize → ⊥) → answerOf (powerOn image used) s ≡ 2
+    on-private ne = entry-answer (powerOn image used) s ∙ rw (eq-eqb (length (s .recordArea)) recordSize size, ne-eqb (length (s .privateArea)) privateSize ne)
 
-    module _ (private : length (s .privateArea) ≡ 2624) where
+    module _ (private : length (s .privateArea) ≡ privateSize) where
       -- the answer is then the machine's: 2 for the disk and the used length, 6 and 7
       on-areas : answerOf (powerOn image used) s ≡ firstFailed (diskChecks (s .disk .sectors) image used)
-      on-areas = entry-answer (powerOn image used) s ∙ rw (eq-eqb (length (s .recordArea)) 1024 size, eq-eqb (length (s .privateArea)) 2624 private)
+      on-areas = entry-answer (powerOn image used) s ∙ rw (eq-eqb (length (s .recordArea)) recordSize size, eq-eqb (length (s .privateArea)) privateSize private)
 
       pub on-disk : wholeSectors (length (s .disk .sectors)) ≡ false → answerOf (powerOn image used) s ≡ 2
       on-disk e = on-areas ∙ power-on-disk (s .disk .sectors) image used e
@@ -160,5 +162,5 @@ module _ (image : List ℕ) (used : ℕ) (s : Store) where
           pub on-unreadable : readable image used ≡ false → answerOf (powerOn image used) s ≡ 6
           on-unreadable e = on-areas ∙ power-on-unreadable (s .disk .sectors) image used whole fits e
 
-          pub on-other : readable image used ≡ true → sameDisk (length (s .disk .sectors) / 512) image used ≡ false → answerOf (powerOn image used) s ≡ 7
+          pub on-other : readable image used ≡ true → sameDisk (length (s .disk .sectors) / sectorSize) image used ≡ false → answerOf (powerOn image used) s ≡ 7
           on-other read e = on-areas ∙ power-on-other (s .disk .sectors) image used whole fits read e

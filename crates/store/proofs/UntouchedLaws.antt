@@ -77,7 +77,7 @@ owner-disk x s = refl
 
 -- "private area all zeros"
 pub power-on-zeroes : (image : List ℕ) (used : ℕ) (s : Store) → onStore (powerOn image used) s .seen .answer ≡ 0
-    → onStore (powerOn image used) s .state .privateArea ≡ zeros 2624
+    → onStore (powerOn image used) s .state .privateArea ≡ zeros privateSize
 power-on-zeroes image used s answers = rw (on-done (powerOn image used) s (passed (powerOn image used) s answers))
 
 -- serve: the other slots stay, and the fill sector unless a fill begins

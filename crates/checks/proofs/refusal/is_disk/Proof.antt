@@ -3,6 +3,7 @@ use mathlib.Core.Path.{ap}
 use Prim.Native.Nat.{ℕ, _*_}
 use native.Mathlib.Omega.{arith}
 use lib.Dec.{eqb}
+use Rattle.model.specs.Sizes.{sectorSize}
 use Rattle.store.proofs.SoundLaws.{sound-parts}
 use Rattle.checks.proofs.CheckLaws.{native-limit}
 use Rattle.checks.proofs.refusal.is_disk.Statement.{statement}
@@ -18,7 +19,7 @@ mul-result c =
     let h = native-limit (entry .args .device .now) (λ i. omega (arith, known .shared-slice-known .given i)) (entry .pre) in let e = c .native-at .ensures in omega (arith, h, e)
 
 returns : tie.Need-returns
-returns c = ap (λ (n : ℕ). eqb (c .before .before .args .disk-len) (512 * n)) (c .native-at .ensures)
+returns c = ap (λ (n : ℕ). eqb (c .before .before .args .disk-len) (sectorSize * n)) (c .native-at .ensures)
 
 pub is-disk-spec : {M : Type 1} → statement M
 is-disk-spec = tie.close (tie.spec native-at-requires mul-result returns)

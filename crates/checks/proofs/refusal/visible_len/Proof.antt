@@ -3,6 +3,7 @@ use mathlib.Core.Path.{ap}
 use Prim.Native.Nat.{ℕ, _*_}
 use native.Mathlib.Omega.{arith}
 use Rattle.wire.specs.Bytes.{Bytes}
+use Rattle.model.specs.Sizes.{sectorSize}
 use Rattle.store.proofs.SoundLaws.{sound-parts}
 use Rattle.checks.proofs.CheckLaws.{native-limit, visible-native}
 use Rattle.checks.proofs.refusal.visible_len.Statement.{statement}
@@ -19,7 +20,7 @@ mul-result c =
     let h = native-limit (entry .args .device .now) bytes (entry .pre) in let v = visible-native (entry .args .device .now) bytes (entry .pre) in let e = c .visible-at .ensures in omega (arith, h, v, e)
 
 returns : tie.Need-returns
-returns c = ap (λ (n : ℕ). 512 * n) (c .visible-at .ensures)
+returns c = ap (λ (n : ℕ). sectorSize * n) (c .visible-at .ensures)
 
 pub visible-len-spec : {M : Type 1} → statement M
 visible-len-spec = tie.close (tie.spec visible-at-requires mul-result returns)

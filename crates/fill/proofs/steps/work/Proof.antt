@@ -2,6 +2,8 @@
 use Rattle.store.proofs.SoundLaws.{sound-parts}
 use Rattle.writing.proofs.FramedLaws.{sound-framed}
 use Rattle.wire.proofs.PartsLaws.{length-part}
+use Rattle.model.specs.Sizes.{sectorSize}
+use Rattle.store.specs.Areas.{fillPlace}
 use native.Mathlib.Omega.{arith}
 use Rattle.fill.proofs.StepsLaws.{count-left, work-fits, worked-count, worked-record, worked-disk}
 use borrow.Author.Needs.{needs}
@@ -50,7 +52,7 @@ returns c =
     let at-decode = at-count-of .before .before in
     let entry = at-decode .before .before .before .before .before in
     let a = entry .args in
-    let whole = length-part (a .area .now) 2112 512 (omega (arith, entry .pre .1)) in (
+    let whole = length-part (a .area .now) fillPlace sectorSize (omega (arith, entry .pre .1)) in (
       worked-count (a .r .now) (a .area .now) (a .disk .now) (a .n) _ (at-decode .decode .result) (at-moved-on .moved-on .result) (at-decode .decode .ensures) (at-count-of .count-of .ensures),
       (
         rw (at-write .write .ensures .0) (worked-record (a .r .now) (a .area .now) (a .disk .now) (a .n) _ (at-decode .decode .result) (at-moved-on .moved-on .result) (at-decode .decode .ensures) (at-count-of .count-of .ensures) whole (at-moved-on .moved-on .ensures)),

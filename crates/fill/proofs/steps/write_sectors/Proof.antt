@@ -8,12 +8,14 @@ use lib.Seq.{sets, length-sets}
 use Rattle.wire.specs.Parts.{repeated}
 use Rattle.runs.proofs.RunLaws.{repeat-more}
 use Rattle.wire.proofs.PartsLaws.{length-part}
+use Rattle.model.specs.Sizes.{sectorSize}
 use Rattle.store.specs.Store.{fillSectorOf}
+use Rattle.store.specs.Areas.{fillPlace}
 use Rattle.fill.proofs.steps.write_sectors.Statement.{statement}
 use Rattle.fill.proofs.steps.write_sectors.Tie as tie
 
 abbrev Inv-loop : tie.InvT-loop
-Inv-loop disk₀ area next k at₀ j₀ disk at j = (j ≤ k) × (length disk ≡ length disk₀) × (at ≡ 512 * next + 512 * j) × (disk ≡ sets disk₀ (512 * next) (repeated j (fillSectorOf area)))
+Inv-loop disk₀ area next k at₀ j₀ disk at j = (j ≤ k) × (length disk ≡ length disk₀) × (at ≡ sectorSize * next + sectorSize * j) × (disk ≡ sets disk₀ (sectorSize * next) (repeated j (fillSectorOf area)))
 
 abbrev μ-loop : tie.MeasureT-loop
 μ-loop disk₀ area next k at₀ j₀ disk at j = k - j
@@ -46,7 +48,7 @@ loop-again c =
       omega arith,
       rw (at-copy-part .copy-part .ensures, length-sets) (at-loop .loop .inv .1),
       omega arith,
-      rw (at-copy-part .copy-part .ensures, at-loop .loop .inv .3, at-loop .loop .inv .2, add-one) (repeat-more (a .disk .now) (fillSectorOf (a .area .now)) (512 * a .next) 512 (at-loop .loop .j) (length-part (a .area .now) 2112 512 (omega (arith, entry .pre)))),
+      rw (at-copy-part .copy-part .ensures, at-loop .loop .inv .3, at-loop .loop .inv .2, add-one) (repeat-more (a .disk .now) (fillSectorOf (a .area .now)) (sectorSize * a .next) sectorSize (at-loop .loop .j) (length-part (a .area .now) fillPlace sectorSize (omega (arith, entry .pre)))),
     )
 
 same-length : tie.Need-same-length Inv-loop μ-loop

@@ -1,18 +1,19 @@
 -- `image_steps::power_on_refusal` meets its contract.
 use borrow.Author.Tests.{ne-eqb, eq-eqb}
 use Rattle.wire.proofs.ChoiceLaws.{passed, failed}
+use Rattle.store.specs.Areas.{privateSize, recordSize}
 use borrow.Author.Needs.{needs}
 use Rattle.image_steps.proofs.images.power_on_refusal.Statement.{statement}
 use Rattle.image_steps.proofs.images.power_on_refusal.Tie as tie
 
 returns : tie.Need-returns
-returns c = λ r a disk er ea ed. rw (er, ne-eqb (c .before .before .args .device-len) 1024 (c .if1 .taken))
+returns c = λ r a disk er ea ed. rw (er, ne-eqb (c .before .before .args .device-len) recordSize (c .if1 .taken))
 
 returns-2 : tie.Need-returns-2
 returns-2 c =
     let at-if1 = c .before in
     let entry = at-if1 .before .before in
-    λ r a disk er ea ed. rw (er, eq-eqb (entry .args .device-len) 1024 (at-if1 .if1 .left), ea, ne-eqb (entry .args .area-len) 2624 (c .if2 .taken))
+    λ r a disk er ea ed. rw (er, eq-eqb (entry .args .device-len) recordSize (at-if1 .if1 .left), ea, ne-eqb (entry .args .area-len) privateSize (c .if2 .taken))
 
 is-whole-requires : tie.Need-is-whole-requires
 is-whole-requires c κs = search needs
@@ -23,7 +24,7 @@ returns-3 c =
     let at-if2 = at-is-whole .before in
     let at-if1 = at-if2 .before in
     let entry = at-if1 .before .before in
-    λ r a disk er ea ed. rw (er, eq-eqb (entry .args .device-len) 1024 (at-if1 .if1 .left), ea, eq-eqb (entry .args .area-len) 2624 (at-if2 .if2 .left), ed, failed (at-is-whole .is-whole .ensures) (c .if3 .taken))
+    λ r a disk er ea ed. rw (er, eq-eqb (entry .args .device-len) recordSize (at-if1 .if1 .left), ea, eq-eqb (entry .args .area-len) privateSize (at-if2 .if2 .left), ed, failed (at-is-whole .is-whole .ensures) (c .if3 .taken))
 
 read-refusal-requires : tie.Need-read-refusal-requires
 read-refusal-requires c κs = search needs
@@ -35,7 +36,7 @@ returns-4 c =
     let at-if2 = at-is-whole .before in
     let at-if1 = at-if2 .before in
     let entry = at-if1 .before .before in
-    λ r a disk er ea ed. rw (er, eq-eqb (entry .args .device-len) 1024 (at-if1 .if1 .left), ea, eq-eqb (entry .args .area-len) 2624 (at-if2 .if2 .left), ed, passed (at-is-whole .is-whole .ensures) (at-if3 .if3 .left)) (c .read-refusal .ensures)
+    λ r a disk er ea ed. rw (er, eq-eqb (entry .args .device-len) recordSize (at-if1 .if1 .left), ea, eq-eqb (entry .args .area-len) privateSize (at-if2 .if2 .left), ed, passed (at-is-whole .is-whole .ensures) (at-if3 .if3 .left)) (c .read-refusal .ensures)
 
 pub power-on-refusal-spec : {M : Type 1} → statement M
 power-on-refusal-spec =

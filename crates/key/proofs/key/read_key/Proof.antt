@@ -4,6 +4,7 @@ use mathlib.Core.Path.{_∙_, sym}
 use native.Mathlib.Omega.{arith}
 use Rattle.wire.specs.Parts.{part}
 use Rattle.wire.proofs.PartsLaws.{number-of, number-first}
+use Rattle.model.specs.Sizes.{sectorSize}
 use Rattle.key.proofs.KeyReadLaws.{with-lock, with-action, with-fill, with-timer, with-feature, with-table}
 use borrow.Author.Needs.{needs}
 use Rattle.key.proofs.key.read_key.Statement.{statement}
@@ -13,7 +14,7 @@ returns : tie.Need-returns
 returns c =
     let a = c .before .before .args in
     λ d lock size.
-    with-lock (a .locked) (a .visible) (part (a .area .now) (a .at) 512) d lock size (c .if1 .taken)
+    with-lock (a .locked) (a .visible) (part (a .area .now) (a .at) sectorSize) d lock size (c .if1 .taken)
 
 u16-at-requires : tie.Need-u16-at-requires
 u16-at-requires c κs = search needs
@@ -25,8 +26,8 @@ returns-2 : tie.Need-returns-2
 returns-2 c =
     let a = c .before .before .before .before .before .args in
     λ d lock size.
-    with-action (a .locked) (a .visible) (part (a .area .now) (a .at) 512) d lock size (c .before .before .before .if1 .left)
-    (rw (number-first 2 (a .area .now) (a .at) 512 (omega arith) (c .before .before .u16-at .ensures)) (failed (c .before .between .ensures) (c .if2 .taken)))
+    with-action (a .locked) (a .visible) (part (a .area .now) (a .at) sectorSize) d lock size (c .before .before .before .if1 .left)
+    (rw (number-first 2 (a .area .now) (a .at) sectorSize (omega arith) (c .before .before .u16-at .ensures)) (failed (c .before .between .ensures) (c .if2 .taken)))
 
 add-u16-at : tie.Need-add-u16-at
 add-u16-at c = search needs
@@ -52,12 +53,12 @@ fill-key-requires c κs = search needs
 returns-3 : tie.Need-returns-3
 returns-3 c =
     let a = c .before .before .before .before .before .before .before .before .before .before .args in
-    let k = part (a .area .now) (a .at) 512 in
+    let k = part (a .area .now) (a .at) sectorSize in
     λ d lock size.
-    c .fill-key .ensures k (number-of 2 (a .area .now) (a .at) 512 2 (omega arith) (c .before .before .before .before .u16-at2 .ensures))
-    (number-of 8 (a .area .now) (a .at) 512 4 (omega arith) (c .before .before .u64-at .ensures))
-    (number-of 8 (a .area .now) (a .at) 512 12 (omega arith) (c .before .u64-at2 .ensures))
-    ∙ with-fill (a .locked) (a .visible) k d lock size (c .before .before .before .before .before .before .before .before .if1 .left) (number-first 2 (a .area .now) (a .at) 512 (omega arith) (c .before .before .before .before .before .before .before .u16-at .ensures) ∙ c .before .before .before .if3 .taken)
+    c .fill-key .ensures k (number-of 2 (a .area .now) (a .at) sectorSize 2 (omega arith) (c .before .before .before .before .u16-at2 .ensures))
+    (number-of 8 (a .area .now) (a .at) sectorSize 4 (omega arith) (c .before .before .u64-at .ensures))
+    (number-of 8 (a .area .now) (a .at) sectorSize 12 (omega arith) (c .before .u64-at2 .ensures))
+    ∙ with-fill (a .locked) (a .visible) k d lock size (c .before .before .before .before .before .before .before .before .if1 .left) (number-first 2 (a .area .now) (a .at) sectorSize (omega arith) (c .before .before .before .before .before .before .before .u16-at .ensures) ∙ c .before .before .before .if3 .taken)
 
 add-u16-at-2 : tie.Need-add-u16-at-2
 add-u16-at-2 c = search needs
@@ -77,10 +78,10 @@ timer-key-requires c κs = search needs
 returns-4 : tie.Need-returns-4
 returns-4 c =
     let a = c .before .before .before .before .before .before .before .before .before .before .before .args in
-    let k = part (a .area .now) (a .at) 512 in
+    let k = part (a .area .now) (a .at) sectorSize in
     λ d lock size.
-    c .timer-key .ensures k (number-of 2 (a .area .now) (a .at) 512 2 (omega arith) (c .before .before .before .before .before .u16-at2 .ensures)) (number-of 2 (a .area .now) (a .at) 512 4 (omega arith) (c .before .before .before .u16-at3 .ensures)) (number-of 2 (a .area .now) (a .at) 512 6 (omega arith) (c .before .before .u16-at4 .ensures))
-    ∙ with-timer (a .locked) (a .visible) k d lock size (c .before .before .before .before .before .before .before .before .before .if1 .left) (number-first 2 (a .area .now) (a .at) 512 (omega arith) (c .before .before .before .before .before .before .before .before .u16-at .ensures) ∙ c .before .if4 .taken)
+    c .timer-key .ensures k (number-of 2 (a .area .now) (a .at) sectorSize 2 (omega arith) (c .before .before .before .before .before .u16-at2 .ensures)) (number-of 2 (a .area .now) (a .at) sectorSize 4 (omega arith) (c .before .before .before .u16-at3 .ensures)) (number-of 2 (a .area .now) (a .at) sectorSize 6 (omega arith) (c .before .before .u16-at4 .ensures))
+    ∙ with-timer (a .locked) (a .visible) k d lock size (c .before .before .before .before .before .before .before .before .before .if1 .left) (number-first 2 (a .area .now) (a .at) sectorSize (omega arith) (c .before .before .before .before .before .before .before .before .u16-at .ensures) ∙ c .before .if4 .taken)
 
 add-u16-at-4 : tie.Need-add-u16-at-4
 add-u16-at-4 c = search needs
@@ -94,11 +95,11 @@ feature-key-requires c κs = search needs
 returns-5 : tie.Need-returns-5
 returns-5 c =
     let a = c .before .before .before .before .before .before .before .before .before .before .before .before .before .args in
-    let k = part (a .area .now) (a .at) 512 in
+    let k = part (a .area .now) (a .at) sectorSize in
     λ d lock size.
-    c .feature-key .ensures k (number-of 2 (a .area .now) (a .at) 512 2 (omega arith) (c .before .before .before .before .before .before .before .u16-at2 .ensures)) (number-of 2 (a .area .now) (a .at) 512 4 (omega arith) (c .before .before .before .before .before .u16-at3 .ensures)) (number-of 2 (a .area .now) (a .at) 512 6 (omega arith) (c .before .before .before .before .u16-at4 .ensures))
-    (number-of 2 (a .area .now) (a .at) 512 8 (omega arith) (c .before .u16-at5 .ensures))
-    ∙ with-feature (a .locked) (a .visible) k d lock size (c .before .before .before .before .before .before .before .before .before .before .before .if1 .left) (number-first 2 (a .area .now) (a .at) 512 (omega arith) (c .before .before .before .before .before .before .before .before .before .before .u16-at .ensures) ∙ c .before .before .if5 .taken)
+    c .feature-key .ensures k (number-of 2 (a .area .now) (a .at) sectorSize 2 (omega arith) (c .before .before .before .before .before .before .before .u16-at2 .ensures)) (number-of 2 (a .area .now) (a .at) sectorSize 4 (omega arith) (c .before .before .before .before .before .u16-at3 .ensures)) (number-of 2 (a .area .now) (a .at) sectorSize 6 (omega arith) (c .before .before .before .before .u16-at4 .ensures))
+    (number-of 2 (a .area .now) (a .at) sectorSize 8 (omega arith) (c .before .u16-at5 .ensures))
+    ∙ with-feature (a .locked) (a .visible) k d lock size (c .before .before .before .before .before .before .before .before .before .before .before .if1 .left) (number-first 2 (a .area .now) (a .at) sectorSize (omega arith) (c .before .before .before .before .before .before .before .before .before .before .u16-at .ensures) ∙ c .before .before .if5 .taken)
 
 table-key-requires : tie.Need-table-key-requires
 table-key-requires c κs = search needs
@@ -106,10 +107,10 @@ table-key-requires c κs = search needs
 returns-6 : tie.Need-returns-6
 returns-6 c =
     let a = c .before .before .before .before .before .before .before .before .before .before .before .before .args in
-    let k = part (a .area .now) (a .at) 512 in
-    let w = number-first 2 (a .area .now) (a .at) 512 (omega arith) (c .before .before .before .before .before .before .before .before .before .u16-at .ensures) in
+    let k = part (a .area .now) (a .at) sectorSize in
+    let w = number-first 2 (a .area .now) (a .at) sectorSize (omega arith) (c .before .before .before .before .before .before .before .before .before .u16-at .ensures) in
     λ d lock size.
-    c .table-key .ensures k (number-of 2 (a .area .now) (a .at) 512 2 (omega arith) (c .before .before .before .before .before .before .u16-at2 .ensures)) (number-of 2 (a .area .now) (a .at) 512 4 (omega arith) (c .before .before .before .before .u16-at3 .ensures))
+    c .table-key .ensures k (number-of 2 (a .area .now) (a .at) sectorSize 2 (omega arith) (c .before .before .before .before .before .before .u16-at2 .ensures)) (number-of 2 (a .area .now) (a .at) sectorSize 4 (omega arith) (c .before .before .before .before .u16-at3 .ensures))
     ∙ with-table (a .locked) (a .visible) k d lock size (c .before .before .before .before .before .before .before .before .before .before .if1 .left) (rw w (passed (c .before .before .before .before .before .before .before .before .between .ensures) (c .before .before .before .before .before .before .before .if2 .left)))
     (λ e. c .before .before .before .before .before .if3 .left (sym w ∙ e))
     (λ e. c .before .before .if4 .left (sym w ∙ e))

@@ -2,6 +2,7 @@
 use Rattle.request.proofs.SlotLaws.{byte-of, lba-of}
 use native.Mathlib.Omega.{arith}
 use Rattle.wire.specs.Parts.{part}
+use Rattle.model.specs.Sizes.{mailboxSize}
 use borrow.Author.Needs.{needs}
 use Rattle.request.proofs.request.lba48.Statement.{statement}
 use Rattle.request.proofs.request.lba48.Tie as tie
@@ -58,7 +59,7 @@ returns : tie.Need-returns
 returns c =
     let a = c .before .before .before .before .before .before .before .before .before .args in
     let l = a .area .now in
-    lba-of (part l (a .at) 528) (c .before .before .before .before .join24 .result) (c .join242 .result)
+    lba-of (part l (a .at) mailboxSize) (c .before .before .before .before .join24 .result) (c .join242 .result)
     (rw (
       byte-of l (a .at) 4 (omega arith) (c .before .before .before .before .before .before .before .u8-at .ensures),
       byte-of l (a .at) 6 (omega arith) (c .before .before .before .before .before .before .u8-at2 .ensures),

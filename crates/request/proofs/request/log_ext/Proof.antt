@@ -3,6 +3,7 @@ use borrow.Author.Tests.{eq-eqb, ne-eqb}
 use native.Mathlib.Omega.{arith}
 use Rattle.model.specs.Registers.{logExt}
 use Rattle.wire.proofs.PartsLaws.{number-of}
+use Rattle.model.specs.Sizes.{mailboxSize}
 use Rattle.request.proofs.SlotLaws.{byte-of}
 use borrow.Author.Needs.{needs}
 use Rattle.request.proofs.request.log_ext.Statement.{statement}
@@ -18,7 +19,7 @@ returns : tie.Need-returns
 unfolding logExt
 returns c =
     let a = c .before .before .before .args in
-    rw (number-of 2 (a .area .now) (a .at) 528 6 (omega arith) (c .before .u16-at .ensures), ne-eqb _ _ (c .if1 .taken))
+    rw (number-of 2 (a .area .now) (a .at) mailboxSize 6 (omega arith) (c .before .u16-at .ensures), ne-eqb _ _ (c .if1 .taken))
 
 add-u8-at : tie.Need-add-u8-at
 add-u8-at c = search needs
@@ -40,10 +41,10 @@ unfolding logExt
 returns-2 c =
     let a = c .before .before .before .before .before .before .args in
     rw (
-      number-of 2 (a .area .now) (a .at) 528 6 (omega arith) (c .before .before .before .before .u16-at .ensures),
+      number-of 2 (a .area .now) (a .at) mailboxSize 6 (omega arith) (c .before .before .before .before .u16-at .ensures),
       eq-eqb _ _ (c .before .before .before .if1 .left),
       byte-of (a .area .now) (a .at) 4 (omega arith) (c .before .before .u8-at .ensures),
-      number-of 2 (a .area .now) (a .at) 528 2 (omega arith) (c .before .u16-at2 .ensures),
+      number-of 2 (a .area .now) (a .at) mailboxSize 2 (omega arith) (c .before .u16-at2 .ensures),
     )
     (c .log-page .ensures)
 

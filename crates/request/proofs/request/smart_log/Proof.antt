@@ -1,6 +1,7 @@
 -- `request::smart_log` meets its contract.
 use native.Mathlib.Omega.{arith}
 use Rattle.wire.specs.Parts.{part}
+use Rattle.model.specs.Sizes.{mailboxSize}
 use Rattle.request.proofs.SlotLaws.{byte-of, byte-first}
 use borrow.Author.Needs.{needs}
 use Rattle.request.proofs.request.smart_log.Statement.{statement}
@@ -40,7 +41,7 @@ returns : tie.Need-returns
 returns c =
     let a = c .before .before .before .before .before .before .before .args in
     let l = a .area .now in
-    c .smart-page .ensures (part l (a .at) 528)
+    c .smart-page .ensures (part l (a .at) mailboxSize)
     (byte-first l (a .at) (c .before .before .before .before .before .u8-at .ensures))
     (byte-of l (a .at) 2 (omega arith) (c .before .before .before .before .u8-at2 .ensures))
     (byte-of l (a .at) 4 (omega arith) (c .before .before .before .u8-at3 .ensures))

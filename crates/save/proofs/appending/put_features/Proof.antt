@@ -35,8 +35,8 @@ put-u16-requires-3 c κs = search needs
 add-put-u8 : tie.Need-add-put-u8
 add-put-u8 c = search needs
 
-marks-requires : tie.Need-marks-requires
-marks-requires c κs = search needs
+options-requires : tie.Need-options-requires
+options-requires c κs = search needs
 
 put-u8-requires : tie.Need-put-u8-requires
 put-u8-requires c κs = search needs
@@ -46,7 +46,7 @@ same-length c = search needs
 
 returns : tie.Need-returns
 unfolding savedFrom decode
-returns c = rw (c .before .before .put-u8 .ensures, c .before .before .before .marks .ensures, c .before .before .before .before .before .before .before .put-u163 .ensures, c .before .before .before .before .before .before .before .before .u16-at3 .ensures, c .before .before .before .before .before .before .before .before .before .before .before .before .put-u162 .ensures, c .before .before .before .before .before .before .before .before .before .before .before .before .before .u16-at2 .ensures, c .before .before .before .before .before .before .before .before .before .before .before .before .before .before .before .before .before .put-u16 .ensures, c .before .before .before .before .before .before .before .before .before .before .before .before .before .before .before .before .before .before .u16-at .ensures)
+returns c = rw (c .before .before .put-u8 .ensures, c .before .before .before .options .ensures, c .before .before .before .before .before .before .before .put-u163 .ensures, c .before .before .before .before .before .before .before .before .u16-at3 .ensures, c .before .before .before .before .before .before .before .before .before .before .before .before .put-u162 .ensures, c .before .before .before .before .before .before .before .before .before .before .before .before .before .u16-at2 .ensures, c .before .before .before .before .before .before .before .before .before .before .before .before .before .before .before .before .before .put-u16 .ensures, c .before .before .before .before .before .before .before .before .before .before .before .before .before .before .before .before .before .before .u16-at .ensures)
 
 pub put-features-spec : {M : Type 1} → statement M
 put-features-spec =
@@ -62,7 +62,7 @@ put-features-spec =
     u16-at-requires-3
     put-u16-requires-3
     add-put-u8
-    marks-requires
+    options-requires
     put-u8-requires
     same-length
     returns)

@@ -3,8 +3,10 @@ use mathlib.Core.Path.{refl}
 use Prim.Native.Nat.{_*_}
 use native.Mathlib.Omega.{arith}
 use Rattle.wire.proofs.PartsLaws.{length-part, sets-whole}
+use Rattle.model.specs.Sizes.{mailboxSize}
 use Rattle.store.specs.Record.{empty}
 use Rattle.store.specs.Entries.{isAnswered}
+use Rattle.store.specs.Areas.{slotPlace}
 use Rattle.checks.proofs.CheckLaws.{MailboxPassed, mailbox-passed}
 use Rattle.service.proofs.StepLaws.{sound-stage, give-refused, give-done}
 use borrow.Author.Needs.{needs}
@@ -56,7 +58,7 @@ returns-2 c =
     let a = entry .args in
     let ok = passed at-if1 in
     rw (give-done (a .device .now) (a .port) (a .mailbox .now) (a .area .now) (at-mailbox-refusal .mailbox-refusal .result) (at-mailbox-refusal .mailbox-refusal .ensures (a .mailbox .now) (a .area .now) refl refl) (at-if1 .if1 .left))
-    (refl, (rw (at-put-stage .put-stage .ensures) (sound-stage (a .device .now) (a .port) empty (ok .isSound) (ok .port)), rw (at-copy-part .copy-part .ensures) (sets-whole _ (a .mailbox .now) 528 (length-part (a .area .now) (528 * a .port) 528 (omega (arith, ok))) (ok .mailboxSized))))
+    (refl, (rw (at-put-stage .put-stage .ensures) (sound-stage (a .device .now) (a .port) empty (ok .isSound) (ok .port)), rw (at-copy-part .copy-part .ensures) (sets-whole _ (a .mailbox .now) mailboxSize (length-part (a .area .now) (slotPlace (a .port)) mailboxSize (omega (arith, ok))) (ok .mailboxSized))))
 
 pub sct-give-spec : {M : Type 1} → statement M
 sct-give-spec =

@@ -5,6 +5,7 @@ use Prim.Native.Nat.{ℕ}
 use native.Mathlib.Omega.{arith}
 use lib.Seq.{sets}
 use Rattle.wire.proofs.PartsLaws.{part-whole}
+use Rattle.model.specs.Sizes.{mailboxSize}
 use Rattle.store.specs.Areas.{slotPlace}
 use Rattle.store.specs.Record.{held}
 use Rattle.store.specs.Entries.{isEmpty}
@@ -59,7 +60,7 @@ returns-2 c =
     let a = entry .args in
     let ok = passed at-if1 in
     rw (take-done (a .device .now) (a .port) (a .mailbox .now) (a .area .now) (at-mailbox-refusal .mailbox-refusal .result) (at-mailbox-refusal .mailbox-refusal .ensures (a .mailbox .now) (a .area .now) refl refl) (at-if1 .if1 .left))
-    (refl, (rw (at-put-stage .put-stage .ensures) (sound-stage (a .device .now) (a .port) held (ok .isSound) (ok .port)), rw (at-copy-part .copy-part .ensures) (ap (λ (l : List ℕ). sets (a .area .now) (slotPlace (a .port)) l) (part-whole (a .mailbox .now) 528 (ok .mailboxSized)))))
+    (refl, (rw (at-put-stage .put-stage .ensures) (sound-stage (a .device .now) (a .port) held (ok .isSound) (ok .port)), rw (at-copy-part .copy-part .ensures) (ap (λ (l : List ℕ). sets (a .area .now) (slotPlace (a .port)) l) (part-whole (a .mailbox .now) mailboxSize (ok .mailboxSized)))))
 
 pub sct-take-spec : {M : Type 1} → statement M
 sct-take-spec =

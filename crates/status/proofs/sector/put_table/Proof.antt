@@ -2,6 +2,8 @@
 use native.Mathlib.Omega.{arith}
 use Rattle.wire.specs.Parts.{part}
 use Rattle.wire.proofs.PartsLaws.{length-part}
+use Rattle.model.specs.Sizes.{sectorSize}
+use Rattle.store.specs.Areas.{headSize}
 use Rattle.reply.specs.Meaning.{asRegisters}
 use Rattle.reply.proofs.ReplyLaws.{reply-stored}
 use borrow.Author.Needs.{needs}
@@ -24,7 +26,7 @@ returns : tie.Need-returns
 returns c =
     let a = c .before .before .before .before .before .before .before .before .before .before .args in
     rw (c .before .before .copy-part .ensures, c .before .before .before .before .before .before .put-registers .ensures)
-    (reply-stored (a .area .now) (a .at) (asRegisters (a .reply)) (part (a .rec .now) 512 512) (length-part (a .rec .now) 512 512 (omega arith)))
+    (reply-stored (a .area .now) (a .at) (asRegisters (a .reply)) (part (a .rec .now) headSize sectorSize) (length-part (a .rec .now) headSize sectorSize (omega arith)))
 
 pub put-table-spec : {M : Type 1} → statement M
 put-table-spec =
