@@ -12,6 +12,7 @@ pub mod UpdateLaws
 pub mod FormatLaws
 pub mod NamedValues
 pub mod RequestLaws
+pub mod EffectLaws
 pub mod TakenLaws
 pub mod FillSector
 pub mod RecordedLaws

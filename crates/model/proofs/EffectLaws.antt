@@ -1,0 +1,72 @@
+-- No request both writes and sends, so the order of the two parts of an effect is free.
+use mathlib.Core.Path.{_≡_, refl}
+use mathlib.Core.Bool.{Bool, true, false}
+use mathlib.Core.Logic.{_⊎_, inl, inr}
+use mathlib.Core.List.{List}
+use Prim.Native.Nat.{ℕ, zero, suc}
+use Rattle.wire.specs.Choice.{if_then_else_, firstFailed, ifPassed}
+use Rattle.model.specs.Device.{Transfer, none, table, fillData, Device}
+use Rattle.model.specs.Update.{withCode, withKey}
+use Rattle.model.specs.Registers.{Direction, read, write, Request, statusRead, keySector, dataTransfer, sectorAccess, other, dataOf, requestOf, Registers, good, refused, refusedWith}
+use Rattle.model.specs.Key.{word, Action, fillPattern, fillSector, setTimer, returnTimer, setFeature, returnState, returnOption, sendTable, Verdict, accepted, rejected, judgeKey}
+use Rattle.model.specs.Fill.{interrupt}
+use Rattle.model.specs.Decide.{Serving, noWrite, noData, status, Effect, nothing, sending, Decision, decision, carryOut, decideVerdict, decideKey, dataChecks, transferEffect, decideData, sectorChecks, sectorEffect, decideSector, pendingFor, decideRequest, decide}
+
+abbrev pub OnePart : Effect → Type 0
+OnePart e = (e .writes ≡ noWrite) ⊎ (e .sends ≡ noData)
+
+-- a choice between two decisions, by a number or by a test
+chosen-part : (n : ℕ) (x y : Decision) → OnePart (x .effect) → OnePart (y .effect) → OnePart (ifPassed n x y .effect)
+chosen-part zero x y p q = p
+chosen-part (suc n) x y p q = q
+
+either-part : (b : Bool) (x y : Decision) → OnePart (x .effect) → OnePart (y .effect) → OnePart ((if b then x else y) .effect)
+either-part true x y p q = p
+either-part false x y p q = q
+
+carried-part : (a : Action) (p : ℕ) (d : Device) → OnePart (carryOut a p d .effect)
+unfolding carryOut
+carried-part (fillPattern first end sector) p d = inr refl
+carried-part (fillSector first end) p d = inr refl
+carried-part (setTimer t n) p d = inr refl
+carried-part (returnTimer t) p d = inr refl
+carried-part (setFeature f n keep) p d = inr refl
+carried-part (returnState f) p d = inr refl
+carried-part (returnOption f) p d = inr refl
+carried-part sendTable p d = inr refl
+
+verdict-part : (v : Verdict) (p : ℕ) (d : Device) → OnePart (decideVerdict v p d .effect)
+verdict-part (accepted a) p d = carried-part a p (withCode 0x0000 d)
+verdict-part (rejected code) p d = inr refl
+
+transfer-part : (t : Transfer) (sector : List ℕ) → OnePart (transferEffect t sector)
+transfer-part none sector = inr refl
+transfer-part table sector = inl refl
+transfer-part (fillData first end) sector = inr refl
+
+sector-part : (dir : Direction) (lba : ℕ) (sector : List ℕ) → OnePart (sectorEffect dir lba sector)
+sector-part read lba sector = inl refl
+sector-part write lba sector = inr refl
+
+request-part : (r : Request) (s : Serving) (m : List ℕ) (d : Device) → OnePart (decideRequest r s m d .effect)
+unfolding decideKey decideData decideSector
+request-part statusRead s m d = either-part (d .locked) (decision d (refusedWith 0x0012) nothing) (decision d (good 0 0) (sending status)) (inr refl) (inl refl)
+request-part keySector s m d =
+    verdict-part (judgeKey (interrupt d) (dataOf m)) (s .port) (withKey (word (dataOf m) 0) (word (dataOf m) 1) (interrupt d))
+request-part (dataTransfer dir count) s m d =
+    let t = pendingFor (s .port) d in
+    let code = firstFailed (dataChecks (interrupt d .locked) dir count t) in
+    chosen-part code (decision (withCode 0x0000 (interrupt d)) (good 0 0) (transferEffect t (dataOf m))) (decision (withCode code (interrupt d)) (refusedWith code) nothing)
+    (transfer-part t (dataOf m))
+    (inr refl)
+request-part (sectorAccess dir count lba) s m d =
+    let error = firstFailed (sectorChecks (interrupt d) count lba) in
+    chosen-part error (decision (interrupt d) (good 0 0) (sectorEffect dir lba (dataOf m))) (decision (interrupt d) (refused error) nothing)
+    (sector-part dir lba (dataOf m))
+    (inr refl)
+request-part other s m d = inr refl
+
+-- THEOREM
+pub one-part : (s : Serving) (m : List ℕ) (d : Device) → OnePart (decide s m d .effect)
+unfolding decide
+one-part s m d = request-part (requestOf m) s m d
