@@ -1,5 +1,5 @@
--- What a changed struct says of the record: the contents with the device changed.
-use mathlib.Core.Path.{_≡_, sym, ap, _∙_}
+-- What a changed struct says of the record: the contents with the device changed; changes one after the other.
+use mathlib.Core.Path.{_≡_, refl, sym, ap, _∙_}
 use mathlib.Core.List.{List}
 use Prim.Native.Nat.{ℕ}
 use lib.ListN.{length, length-map}
@@ -20,3 +20,16 @@ pub changed-contents : (rule : Device → Device) (d e : code.Device.Device) (h 
 changed-contents rule d e h c says change =
     (λ i. record { device = change .device h i; stages = change .stages i })
     ∙ ap (λ (x : Contents). withDevice (rule (x .device)) x) says
+
+-- a struct unchanged
+pub unchanged : (d : code.Device.Device) → Changed (λ x. x) d d
+unchanged d = record { device = λ h. refl; stages = refl; four = refl }
+
+-- a rule after a rule
+pub changed-then : (f g : Device → Device) (d e x : code.Device.Device) → Changed f d e → Changed g e x → Changed (λ y. g (f y)) d x
+changed-then f g d e x first second =
+    record {
+      device = λ h. second .device h ∙ ap g (first .device h);
+      stages = second .stages ∙ first .stages;
+      four = second .four ∙ first .four;
+    }

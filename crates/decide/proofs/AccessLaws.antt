@@ -16,9 +16,10 @@ use Rattle.model.proofs.RequestLaws.{interrupt-kept}
 use Rattle.record.specs.declared.device as device
 use Rattle.record.specs.Meaning.{asTransfer, asDevice, pendingOf}
 use Rattle.control.specs.Change.{Changed}
-use Rattle.decide.specs.declared.decision as code
-use Rattle.decide.specs.Meaning.{Says, Decided}
-use Rattle.decide.proofs.DecidedLaws.{unchanged, changed-then, says-decided, decided-as, decided-then}
+use Rattle.decision.specs.declared.decision as code
+use Rattle.decision.specs.Meaning.{Says, Decided}
+use Rattle.control.proofs.ChangeLaws.{unchanged, changed-then}
+use Rattle.decision.proofs.DecidedLaws.{says-decided, decided-as, decided-then}
 
 -- the transfer of one slot
 pub slot-pending : (slots : List device.Slot.Slot) (p : ℕ) (z : device.Slot.Slot) → p < length slots → asTransfer (getD slots p z .pending) ≡ getD (pendingOf slots) p none

@@ -1,61 +1,32 @@
 -- A key decided: from what the called functions ensure to what the model decides.
-use mathlib.Core.Path.{_≡_, refl, sym, ap, _∙_}
-use mathlib.Core.Bool.{Bool}
+use mathlib.Core.Path.{_≡_, sym, ap, _∙_}
 use mathlib.Core.List.{List}
 use Prim.Native.Nat.{ℕ, _+_}
 use native.Mathlib.Omega.{arith}
 use Rattle.wire.specs.Numbers.{get}
 use Rattle.wire.specs.Parts.{part}
-use Rattle.wire.proofs.PartsLaws.{part-part, number-first, number-of}
+use Rattle.wire.proofs.PartsLaws.{number-first, number-of}
 use Rattle.model.specs.Sizes.{sectorSize, registersSize}
 use Rattle.model.specs.Device.{Device}
 use Rattle.model.specs.Update.{withCode, withKey}
-use Rattle.model.specs.Registers.{Registers, dataOf, good, refusedWith}
-use Rattle.model.specs.Key.{word, FeatureName, writeCache, reordering, logInterval, Action, setFeature, Verdict, accepted, rejected, patternSector, judgeKey}
+use Rattle.model.specs.Registers.{Registers, dataOf, refusedWith}
+use Rattle.model.specs.Key.{word, Action, Verdict, accepted, rejected, patternSector, judgeKey}
 use Rattle.model.specs.Fill.{interrupt}
-use Rattle.model.specs.Decide.{Effect, nothing, decision, carryOut, decideVerdict, decideKey}
+use Rattle.model.specs.Decide.{nothing, decision, carryOut, decideVerdict, decideKey}
 use Rattle.model.proofs.RequestLaws.{interrupt-kept}
-use Rattle.store.specs.Areas.{slotSize, slotPlace}
+use Rattle.store.specs.Areas.{slotPlace}
 use Rattle.store.specs.Store.{slotBytes}
+use Rattle.store.proofs.FollowLaws.{slot-data}
 use Rattle.record.specs.declared.device as device
-use Rattle.record.specs.Meaning.{asDevice, asFeatureName}
+use Rattle.record.specs.Meaning.{asDevice}
 use Rattle.key.specs.Meaning.{asAction, asVerdict, refusalOf}
 use Rattle.key.specs.declared.key as key
 use Rattle.key.specs.declared.key.KeyRead.the-variants.{Accepted, Refused}
 use Rattle.control.specs.Change.{Changed}
-use Rattle.settings.specs.Features.{FeatureSet, isInterval, historyFor}
-use Rattle.decide.specs.declared.decision as code
-use Rattle.decide.specs.Meaning.{asEffect, historyAfter, Says, Decided}
-use Rattle.decide.proofs.DecidedLaws.{changed-then, says-decided, decided-as, decided-then}
-use Rattle.reply.specs.Meaning.{asRegisters}
-
--- ---- a feature set
-
-history-for : (name : FeatureName) (h : List ℕ) → historyFor name h ≡ historyAfter (isInterval name) h
-history-for writeCache h = refl
-history-for reordering h = refl
-history-for logInterval h = refl
-
-pub feature-decided : (m : List ℕ) (name : FeatureName) (n : ℕ) (keep : Bool) (p : ℕ) (d : device.Device.Device) (k : code.Decision.Decision)
-    → FeatureSet name n keep d (k .device) → asRegisters (k .reply) ≡ good 0 0 → asEffect k m ≡ nothing → k .empties ≡ isInterval name
-    → Decided m (carryOut (setFeature name n keep) p) d k
-unfolding carryOut
-feature-decided m name n keep p d k set registers effect empties =
-    record {
-      same = λ h i.
-          decision
-          (((λ j. asDevice (k .device) (historyAfter (empties j) h)) ∙ ap (asDevice (k .device)) (sym (history-for name h)) ∙ set .device h) i)
-          (registers i)
-          (effect i);
-      stages = set .stages;
-      four = set .four;
-    }
-
--- ---- the key
-
--- the slot's data, where it is read
-pub slot-data : (a : List ℕ) (p : ℕ) → part a (slotPlace p + registersSize) sectorSize ≡ dataOf (slotBytes p a)
-slot-data a p = sym (part-part a (slotPlace p) slotSize registersSize sectorSize (omega arith))
+use Rattle.decision.specs.declared.decision as code
+use Rattle.decision.specs.Meaning.{Says, Decided}
+use Rattle.control.proofs.ChangeLaws.{changed-then}
+use Rattle.decision.proofs.DecidedLaws.{says-decided, decided-as, decided-then}
 
 abbrev recordedBy : List ℕ → Device → Device
 recordedBy k x = withKey (word k 0) (word k 1) (interrupt x)

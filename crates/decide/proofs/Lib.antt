@@ -1,4 +1,3 @@
--- Laws of decisions: any (DecidedLaws), a key (KeyLaws), a transfer, an access and a status read (AccessLaws).
-pub mod DecidedLaws
+-- Laws of a request decided: a key (KeyLaws), a transfer, an access and a status read (AccessLaws).
 pub mod KeyLaws
 pub mod AccessLaws

@@ -1,10 +1,10 @@
 // The data transfer (E1h), and the access to one sector (24h and 34h).
-use crate::decision::Decision;
-use crate::decision::Sending;
-use crate::decision::Writing;
-use crate::decision::answered;
-use crate::decision::sent;
-use crate::decision::written;
+use decision::Decision;
+use decision::Sending;
+use decision::Writing;
+use decision::replied;
+use decision::to_send;
+use decision::to_write;
 use record::Device;
 use record::Direction;
 use record::Transfer;
@@ -18,7 +18,7 @@ ghost use Rattle.model.specs.Registers.{dataOf, good};
 ghost use Rattle.model.specs.Fill.{interrupt};
 ghost use Rattle.model.specs.Decide.{decision, transferEffect, sectorEffect, pendingFor, decideData, decideSector};
 ghost use Rattle.record.specs.Meaning.{asTransfer, pendingOf, asDirection};
-ghost use Rattle.decide.specs.Meaning.{Decided};
+ghost use Rattle.decision.specs.Meaning.{Decided};
 
 // What the port p has pending.
 fn pending_of(d: Device, p: usize) -> Transfer
@@ -35,9 +35,9 @@ fn completed(d: Device, t: Transfer) -> Decision
     ensures { λ k. ⌜ ((m : List ℕ) → Decided m (λ x. decision x (good 0 0) (transferEffect (asTransfer t) (dataOf m))) d k) ⌝ }
 {
     match t {
-        Transfer::None => answered(d, reply::good(0, 0)),
-        Transfer::Table => sent(d, Sending::Temperatures),
-        Transfer::FillData(first, end) => written(d, Writing::DataFill(first, end)),
+        Transfer::None => replied(d, reply::good(0, 0)),
+        Transfer::Table => to_send(d, Sending::Temperatures),
+        Transfer::FillData(first, end) => to_write(d, Writing::DataFill(first, end)),
     }
 }
 
@@ -51,7 +51,7 @@ pub fn decide_data(d: Device, p: usize, dir: Direction, count: u16) -> Decision
     let stopped = control::interrupt(d);
     let e = control::with_code(stopped, code);
     if code != 0 {
-        return answered(e, reply::refused_with(code));
+        return replied(e, reply::refused_with(code));
     }
     completed(e, t)
 }
@@ -61,8 +61,8 @@ fn moved(d: Device, dir: Direction, lba: u64) -> Decision
     ensures { λ k. ⌜ ((m : List ℕ) → Decided m (λ x. decision x (good 0 0) (sectorEffect (asDirection dir) lba (dataOf m))) d k) ⌝ }
 {
     match dir {
-        Direction::Read => sent(d, Sending::Sector(lba)),
-        Direction::Write => written(d, Writing::Sector(lba)),
+        Direction::Read => to_send(d, Sending::Sector(lba)),
+        Direction::Write => to_write(d, Writing::Sector(lba)),
     }
 }
 
@@ -74,7 +74,7 @@ pub fn decide_sector(d: Device, dir: Direction, count: u16, lba: u64) -> Decisio
     let error = request::sector_error(d.locked, d.visible, count, lba);
     let e = control::interrupt(d);
     if error != 0 {
-        return answered(e, reply::refused(error));
+        return replied(e, reply::refused(error));
     }
     moved(e, dir, lba)
 }

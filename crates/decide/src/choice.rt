@@ -1,11 +1,11 @@
 // Any request.
 use crate::access::decide_data;
 use crate::access::decide_sector;
-use crate::decision::Decision;
-use crate::decision::Sending;
-use crate::decision::answered;
-use crate::decision::sent;
 use crate::key_sector::decide_key;
+use decision::Decision;
+use decision::Sending;
+use decision::replied;
+use decision::to_send;
 use record::Device;
 use request::Request;
 ghost use mathlib.Core.Path.{_≡_};
@@ -19,16 +19,16 @@ ghost use Rattle.model.specs.Decide.{decision, nothing, decideStatus, decideReq
 ghost use Rattle.store.specs.Areas.{privateSize};
 ghost use Rattle.store.specs.Store.{slotBytes};
 ghost use Rattle.request.specs.Meaning.{asRequest};
-ghost use Rattle.decide.specs.Meaning.{Decided};
+ghost use Rattle.decision.specs.Meaning.{Decided};
 
 // "A refused status read under the lock answers 0012h and stores nothing."
 fn decide_status(d: Device) -> Decision
     ensures { λ k. ⌜ ((m : List ℕ) → Decided m decideStatus d k) ⌝ }
 {
     if d.locked {
-        return answered(d, reply::refused_with(0x0012));
+        return replied(d, reply::refused_with(0x0012));
     }
-    sent(d, Sending::Status)
+    to_send(d, Sending::Status)
 }
 
 // "All else ..: Error 04h, stored code unchanged unless a fill was stopped."
@@ -36,7 +36,7 @@ fn decide_other(d: Device) -> Decision
     requires { ⌜ length (d .slots) ≡ portCount ⌝ }
     ensures { λ k. ⌜ ((m : List ℕ) → Decided m (λ x. decision (interrupt x) (refused 0x04) nothing) d k) ⌝ }
 {
-    answered(control::interrupt(d), reply::refused(0x04))
+    replied(control::interrupt(d), reply::refused(0x04))
 }
 
 // The request q that slot p of the private area holds, on the device d.

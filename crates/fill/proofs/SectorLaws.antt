@@ -1,6 +1,6 @@
 -- Where the bytes of a fill's sector stand in the private area.
 use mathlib.Core.Path.{_≡_, sym, ap, _∙_}
-use Prim.Native.Nat.{ℕ, _+_, _*_, _≤_}
+use Prim.Native.Nat.{ℕ, _+_, _≤_}
 use native.Mathlib.Omega.{arith}
 use mathlib.Core.List.{List}
 use lib.Seq.{sets}
@@ -11,6 +11,7 @@ use Rattle.model.specs.Registers.{dataOf}
 use Rattle.model.specs.Key.{patternSector}
 use Rattle.store.specs.Areas.{slotSize, slotPlace, fillPlace}
 use Rattle.store.specs.Store.{slotBytes}
+use Rattle.store.proofs.FollowLaws.{slot-data}
 
 -- bytes of a slot's data are bytes of the area
 pub data-part : (a : List ℕ) (p i n : ℕ) → registersSize + i + n ≤ slotSize → i + n ≤ sectorSize
@@ -23,4 +24,4 @@ pub pattern-stored : (a : List ℕ) (p : ℕ) → sets a fillPlace (repeated 128
 pattern-stored a p = ap (λ (l : List ℕ). sets a fillPlace (repeated 128 l)) (sym (data-part a p 20 4 (omega arith) (omega arith)))
 
 pub data-stored : (a : List ℕ) (p : ℕ) → sets a fillPlace (part a (slotPlace p + registersSize) sectorSize) ≡ sets a fillPlace (dataOf (slotBytes p a))
-data-stored a p = ap (sets a fillPlace) (sym (part-part a (slotPlace p) slotSize registersSize sectorSize (omega arith)))
+data-stored a p = ap (sets a fillPlace) (slot-data a p)

@@ -1,7 +1,7 @@
 -- A fill worked off: the definition's sector steps are the device moved on and the sectors written one behind the other.
 use mathlib.Core.Path.{_≡_, refl, sym, ap, subst, _∙_}
 use mathlib.Core.Bool.{Bool, true, false}
-use Prim.Native.Nat.{ℕ, _+_, _*_, _-_, _≤_, _<_, min}
+use Prim.Native.Nat.{ℕ, _+_, _*_, _-_, _≤_, _<_}
 use native.Mathlib.Omega.{arith}
 use native.Mathlib.Decide.{decLt}
 use mathlib.Core.List.{List, _++_}
@@ -11,9 +11,8 @@ use lib.Dec.{eqb}
 use borrow.Author.Tests.{eq-eqb, ne-eqb, eqb-true, eqb-false}
 use Rattle.wire.specs.Choice.{if_then_else_}
 use Rattle.wire.specs.Bytes.{Bytes}
-use Rattle.wire.specs.Parts.{part, repeated}
+use Rattle.wire.specs.Parts.{repeated}
 use Rattle.wire.proofs.PartsLaws.{length-part, length-repeated, sets-front}
-use Rattle.runs.proofs.RunLaws.{repeat-more}
 use Rattle.model.specs.Sizes.{sectorSize}
 use Rattle.model.specs.Device.{Fill, idle, running, Device}
 use Rattle.model.specs.Update.{withInitialized}

@@ -54,13 +54,13 @@ fn body_holds(image: &[u8], at: usize) -> bool
     let options = wire::u8_at(image, at + entry::OPTIONS_AT);
     let zero = runs::is_zero(image, at + entry::ZEROS_AT, entry::ZEROS);
     let fixed = soundness::table_fixed(image, at + entry::TABLE_AT);
-    let logged = wire::u16_at(image, at + entry::LOGGED_AT);
+    let logged = wire::u16_at(image, at + entry::TABLE_INTERVAL_AT);
     let state = wire::u16_at(image, at + entry::INTERVAL_AT);
     let ranged = values_in_range(image, at);
     (flag <= 1) & (options <= 7) & zero & fixed & (logged == state) & ranged
 }
 
-// "all entries have the same N": whether the body at `at` is alike that of the newest entry, whose N is `native`.
+// "all entries have the same N": whether the body at `at` is like that of the newest entry, whose N is `native`.
 fn alike(native: u64, image: &[u8], at: usize) -> bool
     requires { ⌜ at + bodySize ≤ length (now image) ⌝ }
     ensures { λ r. ⌜ ((latest : Saved) → latest .native ≡ native → r ≡ alike latest (savedAt (now (image .entry)) at)) ⌝ }

@@ -14,7 +14,7 @@ use Rattle.model.specs.Sizes.{sectorSize, entrySize, entryLimit}
 use Rattle.model.specs.Image.{entries, imageChecks}
 use Rattle.store.specs.Areas.{recordSize, privateSize}
 use Rattle.store.specs.Sound.{sound}
-use Rattle.store.specs.Entries.{SaveAfter, saveChecks, saveDone, saveBytes, PowerOnAfter, powerOnChecks, powerOnDone, powerOnBytes}
+use Rattle.store.specs.Entries.{saveChecks, saveDone, saveBytes, powerOnChecks, powerOnDone, powerOnBytes}
 
 -- ---- what passed
 

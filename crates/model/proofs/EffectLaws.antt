@@ -1,16 +1,18 @@
--- No request both writes and sends, so the order of the two parts of an effect is free.
-use mathlib.Core.Path.{_≡_, refl}
+-- No request both writes and sends, so its reply is the same whether it is made before or after what is written.
+use mathlib.Core.Path.{_≡_, refl, sym, ap, _∙_}
 use mathlib.Core.Bool.{Bool, true, false}
 use mathlib.Core.Logic.{_⊎_, inl, inr}
 use mathlib.Core.List.{List}
 use Prim.Native.Nat.{ℕ, zero, suc}
 use Rattle.wire.specs.Choice.{if_then_else_, firstFailed, ifPassed}
 use Rattle.model.specs.Device.{Transfer, none, table, fillData, Device}
+use Rattle.model.specs.Disk.{Disk}
 use Rattle.model.specs.Update.{withCode, withKey}
-use Rattle.model.specs.Registers.{Direction, read, write, Request, statusRead, keySector, dataTransfer, sectorAccess, other, dataOf, requestOf, Registers, good, refused, refusedWith}
+use Rattle.model.specs.Registers.{Direction, read, write, Request, statusRead, keySector, dataTransfer, sectorAccess, other, dataOf, requestOf, good, refused, refusedWith}
 use Rattle.model.specs.Key.{word, Action, fillPattern, fillSector, setTimer, returnTimer, setFeature, returnState, returnOption, sendTable, Verdict, accepted, rejected, judgeKey}
 use Rattle.model.specs.Fill.{interrupt}
-use Rattle.model.specs.Decide.{Serving, noWrite, noData, status, Effect, nothing, sending, Decision, decision, carryOut, decideVerdict, decideKey, dataChecks, transferEffect, decideData, sectorChecks, sectorEffect, decideSector, pendingFor, decideRequest, decide}
+use Rattle.model.specs.Decide.{Serving, Writing, noWrite, Sending, noData, status, Effect, nothing, sending, Decision, decision, carryOut, decideVerdict, decideKey, dataChecks, transferEffect, decideData, sectorChecks, sectorEffect, decideSector, pendingFor, decideRequest, decide}
+use Rattle.model.specs.Perform.{written, volumeAfter, contentRead, replyWith, replyOf}
 
 abbrev pub OnePart : Effect → Type 0
 OnePart e = (e .writes ≡ noWrite) ⊎ (e .sends ≡ noData)
@@ -66,7 +68,19 @@ request-part (sectorAccess dir count lba) s m d =
     (inr refl)
 request-part other s m d = inr refl
 
--- THEOREM
+-- THEOREM: no request both writes and sends ..
 pub one-part : (s : Serving) (m : List ℕ) (d : Device) → OnePart (decide s m d .effect)
 unfolding decide
 one-part s m d = request-part (requestOf m) s m d
+
+order-free : (c : Decision) (disk : Disk) → OnePart (c .effect) → replyOf c (volumeAfter c disk) ≡ replyOf c (record { device = c .device; disk = disk })
+order-free c disk (inl e) = ap (λ (w : Writing). replyOf c (written w (record { device = c .device; disk = disk }))) e
+order-free c disk (inr e) =
+    let v = volumeAfter c disk in
+    ap (λ (x : Sending). replyWith (c .registers) x (v .device) (contentRead x (v .disk))) e
+    ∙ sym (ap (λ (x : Sending). replyWith (c .registers) x (c .device) (contentRead x disk)) e)
+
+-- .. so its reply is that of the device and the disk before what it writes
+pub reply-before : (s : Serving) (m : List ℕ) (d : Device) (disk : Disk)
+    → let c = decide s m d in replyOf c (volumeAfter c disk) ≡ replyOf c (record { device = c .device; disk = disk })
+reply-before s m d disk = order-free (decide s m d) disk (one-part s m d)

@@ -255,11 +255,11 @@ reply-data r s h =
     ∙ take-at s (zeros (mailboxSize - length (registersBytes r ++ s))) sectorSize h
 
 -- .. and "zeros unless data is returned"
-pub reply-no-data : (r : Registers) → part (replyBytes r []) registersSize sectorSize ≡ zeros sectorSize
+pub reply-no-data : (r : Registers) → part (replyBytes r []) registersSize dataSize ≡ zeros dataSize
 reply-no-data r =
-    ap (λ (m : List ℕ). part m registersSize sectorSize) (reply-split r [])
-    ∙ ap (λ (n : ℕ). part (registersBytes r ++ zeros (mailboxSize - n)) registersSize sectorSize) (ap length (append-nil (registersBytes r)) ∙ length-registers r)
-    ∙ part-append-right (registersBytes r) (zeros sectorSize) registersSize sectorSize (length-registers r) (length-zeros sectorSize)
+    ap (λ (m : List ℕ). part m registersSize dataSize) (reply-split r [])
+    ∙ ap (λ (n : ℕ). part (registersBytes r ++ zeros (mailboxSize - n)) registersSize dataSize) (ap length (append-nil (registersBytes r)) ∙ length-registers r)
+    ∙ part-append-right (registersBytes r) (zeros dataSize) registersSize dataSize (length-registers r) (length-zeros dataSize)
 
 pub reply-sized : (r : Registers) (s : List ℕ) → length s ≤ dataSize → Bytes s → Sized mailboxSize (replyBytes r s)
 unfolding replyBytes registersBytes

@@ -1,12 +1,12 @@
 -- No sector outside the visible disk of that moment is ever written, and an effect writes within its span.
-use mathlib.Core.Path.{_≡_, refl, sym, ap, _∙_, subst}
+use mathlib.Core.Path.{_≡_, refl, sym, ap, _∙_}
 use mathlib.Core.Logic.{_⊎_, inl, inr}
 use Prim.Native.Nat.{ℕ, zero, suc, _+_, _-_, _*_, _≤_, _<_, min}
 use native.Mathlib.Omega.{arith}
-use mathlib.Core.List.{List, [], _∷_}
+use mathlib.Core.List.{List}
 use lib.ListN.{length, getD, drop}
 use lib.Seq.{sets}
-use Rattle.wire.specs.Choice.{Check, firstFailed}
+use Rattle.wire.specs.Choice.{firstFailed}
 use Rattle.wire.specs.Parts.{repeated}
 use Rattle.wire.proofs.ChoiceLaws.{all-pass}
 use Rattle.wire.proofs.NumbersLaws.{getD-sets-before, getD-sets-after}
@@ -16,10 +16,10 @@ use Rattle.model.specs.Device.{Fill, idle, running, Device}
 use Rattle.model.specs.Disk.{Disk, hiddenPart}
 use Rattle.model.specs.Fill.{Volume, writeSector}
 use Rattle.model.specs.Decide.{Writing, noWrite, oneSector, newFill, Decision, decide}
-use Rattle.model.specs.Perform.{written, Span, spanOf}
+use Rattle.model.specs.Perform.{written, spanOf}
 use Rattle.model.specs.Machine.{Machine, heldBytes}
 use Rattle.model.specs.Step.{Step, take, serve, give, work, owner, save, powerOn, checks, does, served, serveDecided, poweredOn, Outcome, step}
-use Rattle.model.specs.Valid.{FillValid, SectorValid, Sized, MachineValid}
+use Rattle.model.specs.Valid.{FillValid, SectorValid, MachineValid}
 use Rattle.model.proofs.StepLaws.{step-done, step-refused, answers-numbered}
 use Rattle.model.proofs.WorkLaws.{work-disk, work-idle}
 use Rattle.model.proofs.ValidRequest.{WritingValid, DecisionValid, decide-valid}

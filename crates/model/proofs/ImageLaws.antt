@@ -80,7 +80,7 @@ chain-every latest image (suc k) h =
 
 -- ---- the form of an image
 
--- "Entries of 560 bytes: 544 of body, a 16-byte trailer at the end": entry k, of values in range that fit, alike the newest.
+-- "Entries of 560 bytes: 544 of body, a 16-byte trailer at the end": entry k, of values in range that fit, and like one saved value.
 pub record EntryForm (latest : Saved) (image : List ℕ) (k : ℕ) : Type 0 where
   pub saved : Saved
   pub fits : SavedFits saved

@@ -11,7 +11,6 @@ use Rattle.model.specs.Image.{powerOn as powerOnDevice}
 use Rattle.model.specs.Machine.{empty, Machine}
 use Rattle.model.specs.Step.{save, powerOn, Outcome, checks, poweredOn, step}
 use Rattle.model.proofs.StepLaws.{step-done, answer-is}
-use Rattle.model.specs.Sizes.{sectorSize}
 
 -- ---- save
 
@@ -41,7 +40,7 @@ save-leaves image used M done =
 
 -- "slots empty"; the device is the one restored, on the disk as it is
 pub record IsOn (image : List ℕ) (used : ℕ) (M N : Machine) : Type 0 where
-  pub device : N .device ≡ powerOnDevice (restored (length (M .disk .sectors) / sectorSize) image used)
+  pub device : N .device ≡ powerOnDevice (restored (length (M .disk .sectors) / 512) image used)
   pub ports : (p : ℕ) → N .ports p ≡ empty
   pub sector : N .sector ≡ []
   pub disk : N .disk ≡ M .disk

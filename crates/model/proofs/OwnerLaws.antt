@@ -1,19 +1,15 @@
 -- Laws of stopping a fill, of lock, unlock and set V.
-use mathlib.Core.Path.{_≡_, refl, sym, ap, _∙_}
-use mathlib.Core.Bool.{Bool, true, false, _&&_, and-true, and-false}
-use Prim.Native.Nat.{ℕ, zero, suc, _≤_, _<_}
-use native.Mathlib.Omega.{arith}
-use mathlib.Core.List.{List, [], _∷_}
-use lib.Dec.{eqb}
+use mathlib.Core.Path.{_≡_, refl, ap}
+use mathlib.Core.Bool.{Bool, true, false, and-true, and-false}
+use Prim.Native.Nat.{ℕ, _≤_}
 use borrow.Author.Tests.{eq-eqb, ne-eqb}
-use Rattle.wire.specs.Choice.{between}
 use Rattle.wire.proofs.ChoiceLaws.{between-within, pass-all}
 use Rattle.model.specs.Device.{Fill, idle, running, Device}
 use Rattle.model.specs.Fill.{nothingPending, stopFill, interrupt}
 use Rattle.model.specs.Owner.{setLock}
 use Rattle.model.specs.Owner.{setVisible as setVisibleDevice}
 use Rattle.model.specs.Machine.{Machine, machine}
-use Rattle.model.specs.Step.{lock, unlock, setVisible, Step, owner, Outcome, checks, does, seenDone, step}
+use Rattle.model.specs.Step.{lock, unlock, setVisible, owner, checks, does, seenDone, step}
 use Rattle.model.proofs.StepLaws.{step-done}
 use Rattle.model.proofs.RequestLaws.{interrupt-kept}
 use Rattle.model.proofs.RecordedLaws.{interrupt-recorded}

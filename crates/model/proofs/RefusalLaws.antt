@@ -7,7 +7,7 @@ use mathlib.Core.List.{List}
 use lib.ListN.{length}
 use borrow.Author.Tests.{eq-eqb, ne-eqb, lt-ltb, le-ltb, lt-leb, le-leb}
 use Rattle.wire.specs.Choice.{firstFailed}
-use Rattle.model.specs.Sizes.{portCount, mailboxSize, sectorSize}
+use Rattle.model.specs.Sizes.{portCount, mailboxSize}
 use Rattle.model.specs.Image.{readable, sameDisk, hasRoom, wholeSectors, powerOnChecks}
 use Rattle.model.specs.Machine.{Machine}
 use Rattle.model.specs.Step.{lock, unlock, setVisible, sample, Step, take, serve, give, work, owner, save, isEmpty, isRequest, isReply, step}
@@ -90,7 +90,7 @@ module _ (disk image : List ℕ) (used : ℕ) where
     pub power-on-unreadable : readable image used ≡ false → firstFailed (powerOnChecks disk image used) ≡ 6
     power-on-unreadable r = rw (whole, le-leb used (length image) fits, r)
 
-    pub power-on-other : readable image used ≡ true → sameDisk (length disk / sectorSize) image used ≡ false → firstFailed (powerOnChecks disk image used) ≡ 7
+    pub power-on-other : readable image used ≡ true → sameDisk (length disk / 512) image used ≡ false → firstFailed (powerOnChecks disk image used) ≡ 7
     power-on-other r d = rw (whole, le-leb used (length image) fits, r, d)
 
   -- "Power-on from length 0" is never refused for its image

@@ -1,28 +1,28 @@
 -- Condition 2 for requests: for each kind of request its reply, and the device and the disk afterwards.
-use mathlib.Core.Path.{_≡_, refl, sym, ap, _∙_}
-use mathlib.Core.Bool.{Bool, true, false, not}
-use Prim.Native.Nat.{ℕ, zero, suc, _*_, _≤_, _<_}
+use mathlib.Core.Path.{_≡_, refl, ap, _∙_}
+use mathlib.Core.Bool.{Bool, true, false}
+use Prim.Native.Nat.{ℕ, suc, _*_, _≤_, _<_}
 use native.Mathlib.Omega.{arith}
-use mathlib.Core.List.{List, [], _∷_}
-use lib.ListN.{length, getD, set}
+use mathlib.Core.List.{List, []}
+use lib.ListN.{getD, set}
 use lib.Seq.{sets}
-use lib.Dec.{eqb, ltb}
-use borrow.Author.Tests.{eq-eqb, ne-eqb, lt-ltb, le-ltb}
-use Rattle.wire.specs.Choice.{if_then_else_, bit, Check, firstFailed, ifPassed}
+use lib.Dec.{eqb}
+use borrow.Author.Tests.{ne-eqb, lt-ltb, le-ltb}
+use Rattle.wire.specs.Choice.{if_then_else_, bit, firstFailed}
 use Rattle.wire.specs.Parts.{part}
-use Rattle.wire.proofs.ChoiceLaws.{AllPass, pass-all}
+use Rattle.wire.proofs.ChoiceLaws.{pass-all}
 use Rattle.model.specs.Sizes.{sectorSize, portCount, done}
 use Rattle.model.specs.Device.{Fill, idle, running, Transfer, none, table, fillData, Device}
-use Rattle.model.specs.Update.{withSettings, withThermal, withCode, withKey, withPending, withInitialized, withCommand}
-use Rattle.model.specs.Registers.{Direction, read, write, Request, statusRead, keySector, dataTransfer, sectorAccess, other, dataOf, requestOf, Registers, good, refused, refusedWith, replyBytes}
+use Rattle.model.specs.Update.{withSettings, withCode, withKey, withPending, withInitialized, withCommand}
+use Rattle.model.specs.Registers.{Direction, read, write, Request, statusRead, keySector, dataTransfer, sectorAccess, other, dataOf, requestOf, good, refused, refusedWith, replyBytes}
 use Rattle.model.specs.Key.{word, FeatureName, Action, fillPattern, fillSector, setTimer, returnTimer, setFeature, returnState, returnOption, sendTable, Verdict, accepted, rejected, judgeKey}
 use Rattle.model.specs.Status.{statusSector}
-use Rattle.model.specs.Disk.{Disk, sectorAt, withSector}
+use Rattle.model.specs.Disk.{Disk}
 use Rattle.model.specs.Fill.{nothingPending, stopFill, interrupt, startFill, writeSector}
-use Rattle.model.specs.Decide.{Serving, oneSector, newFill, status, temperatures, diskSector, nothing, writing, sending, Decision, decision, decideStatus, timer, withTimer, feature, withFeature, afterFeature, carryOut, decideVerdict, decideKey, moves, sectorsOf, dataChecks, decideData, sectorChecks, decideSector, pendingFor, decideRequest, decide}
+use Rattle.model.specs.Decide.{Serving, oneSector, newFill, status, temperatures, diskSector, nothing, writing, sending, Decision, decision, timer, withTimer, feature, withFeature, afterFeature, carryOut, decideVerdict, decideKey, moves, sectorsOf, dataChecks, decideData, sectorChecks, decideSector, decideRequest, decide}
 use Rattle.model.specs.Perform.{temperatureTable, volumeAfter, replyOf}
-use Rattle.model.specs.Machine.{Port, empty, request, reply, Machine, withPort, heldBytes}
-use Rattle.model.specs.Step.{Step, serve, Seen, Outcome, checks, answerOnly, served, serveDecided, step}
+use Rattle.model.specs.Machine.{Port, request, reply, Machine, heldBytes}
+use Rattle.model.specs.Step.{serve, Outcome, checks, answerOnly, served, serveDecided, step}
 use Rattle.model.proofs.StepLaws.{step-done, port-same, port-other}
 
 abbrev pub serveOn : Serving → Machine → Outcome Machine

@@ -1,8 +1,7 @@
 -- The starred examples of document 01 hold of the definitions.
 use mathlib.Core.Path.{_≡_, refl}
-use mathlib.Core.Bool.{true, false}
 use Prim.Native.Nat.{ℕ, _*_}
-use mathlib.Core.List.{List, [], _∷_, map, _++_}
+use mathlib.Core.List.{List, [], _∷_, map}
 use Rattle.wire.specs.Numbers.{le, get, put}
 use Rattle.wire.specs.Parts.{zeros, padded, repeated}
 use Rattle.wire.specs.Layout.{form}
@@ -14,7 +13,7 @@ use Rattle.model.specs.Decide.{carryOut, decideKey, decide}
 use Rattle.model.specs.Owner.{sample}
 use Rattle.model.specs.Image.{powerOn, restored}
 use Rattle.model.specs.Machine.{Machine}
-use Rattle.model.specs.Step.{Step, take, serve, give, Seen, Outcome, step, trace, served, serveDecided, poweredOn, answerOnly, answeredMailbox}
+use Rattle.model.specs.Step.{take, serve, give, Outcome, step, trace, served, serveDecided, poweredOn, answerOnly, answeredMailbox}
 use Rattle.model.specs.Examples.{Example, evaluate, starred, keyMailbox, fillKey}
 use Rattle.model.specs.Sizes.{mailboxSize, sectorSize}
 

@@ -1,17 +1,17 @@
 -- Laws of a step: done or refused, and the order of the refusals.
 use mathlib.Core.Path.{_≡_, refl, sym, ap, _∙_}
-use mathlib.Core.Bool.{Bool, true, false, _&&_}
-use Prim.Native.Nat.{ℕ, zero, suc, _≤_, _<_}
+use mathlib.Core.Bool.{Bool, true, _&&_}
+use Prim.Native.Nat.{ℕ, zero, suc, _<_}
 use native.Mathlib.Omega.{arith}
-use mathlib.Core.List.{List, [], _∷_, map}
+use mathlib.Core.List.{List, [], _∷_}
 use lib.ListN.{length}
 use lib.Dec.{eqb, leb}
 use borrow.Author.Tests.{eq-eqb, ne-eqb, lt-ltb}
 use Rattle.wire.specs.Choice.{if_then_else_, Check, firstFailed}
-use Rattle.wire.proofs.ChoiceLaws.{Numbered, all-pass, pass-all, first-bound}
+use Rattle.wire.proofs.ChoiceLaws.{Numbered, pass-all}
 use Rattle.model.specs.Sizes.{portCount, mailboxSize, done, refusalOrder}
-use Rattle.model.specs.Machine.{Port, empty, request, reply, Machine, whileRunning, withPort, heldBytes}
-use Rattle.model.specs.Step.{Step, take, serve, give, work, owner, save, powerOn, Seen, Outcome, checks, unchanged, seenDone, answerOnly, answeredMailbox, does, attempt, step, trace}
+use Rattle.model.specs.Machine.{Port, empty, request, reply, Machine, whileRunning, withPort}
+use Rattle.model.specs.Step.{Step, take, serve, give, work, owner, save, powerOn, Seen, Outcome, checks, unchanged, seenDone, answeredMailbox, does, attempt, step, trace}
 
 -- a step that no check refuses is done
 pub step-done : (x : Step) (M : Machine) → firstFailed (checks x M) ≡ 0 → step x M ≡ record { state = does x M; seen = seenDone x M }

@@ -4,19 +4,15 @@ use mathlib.Core.Bool.{Bool, true, false}
 use Prim.Native.Nat.{ℕ, zero, suc, _<_}
 use native.Mathlib.Omega.{arith}
 use mathlib.Core.List.{List, [], _∷_}
-use lib.ListN.{length}
-use lib.Dec.{eqb}
-use borrow.Author.Tests.{eqb-true, eq-eqb, ne-eqb}
-use native.Mathlib.Decide.{ℕ-discrete}
 use Rattle.wire.specs.Choice.{firstFailed}
 use Rattle.wire.proofs.ChoiceLaws.{all-pass}
 use Rattle.model.specs.Sizes.{portCount}
 use Rattle.model.specs.Decide.{Serving, Decision, decide}
 use Rattle.model.specs.Perform.{volumeAfter, replyOf}
-use Rattle.model.specs.Machine.{Port, empty, request, reply, Machine, withPort}
+use Rattle.model.specs.Machine.{Port, empty, request, Machine, withPort}
 use Rattle.model.specs.Step.{Step, take, serve, give, work, owner, save, powerOn, isEmpty, isReply, Outcome, checks, does, served, serveDecided, worked, step}
 use Rattle.model.specs.Valid.{Each}
-use Rattle.model.proofs.StepLaws.{step-done, step-refused, answer-is, answers-numbered, port-same, port-other}
+use Rattle.model.proofs.StepLaws.{step-done, step-refused, answer-is, answers-numbered, port-other}
 use Rattle.model.proofs.RequestLaws.{Serves, serves}
 
 -- a step that does not serve the port p, and is no power-on that is done; f is how a step acts on a state, as in a trace

@@ -1,23 +1,21 @@
 -- Laws of temperatures: maxima by signed value, missing samples, and where a reading is logged.
-use mathlib.Core.Path.{_≡_, refl, sym, ap, _∙_}
+use mathlib.Core.Path.{_≡_, refl, sym, _∙_}
 use mathlib.Core.Bool.{Bool, true, false}
 use mathlib.Core.Logic.{_⊎_, inl, inr}
-use Prim.Native.Nat.{ℕ, zero, suc, _+_, _-_, _*_, _≤_, _<_}
+use Prim.Native.Nat.{ℕ, suc, _+_, _-_, _≤_, _<_}
 use native.Mathlib.Omega.{arith}
-use mathlib.Core.List.{List, [], _∷_}
-use lib.ListN.{length, getD, set}
-use lib.Seq.{getD-set-same, getD-set-other}
+use lib.ListN.{set}
 use lib.IntN.{ℤ, pos, negsuc}
 use lib.Signed.{leZ, _≤ℤ_, ≤ℤ-refl}
-use lib.Dec.{T, eqb, leb, ltb, le→leb}
-use borrow.Author.Tests.{eqb-true, eq-eqb, ne-eqb, leb-false, le-leb, lt-ltb, le-ltb}
+use lib.Dec.{eqb, leb, le→leb}
+use borrow.Author.Tests.{eqb-true, ne-eqb, leb-false, lt-ltb, le-ltb}
 use Rattle.wire.specs.Choice.{if_then_else_}
 use Rattle.model.specs.Sizes.{historySize, missing}
-use Rattle.model.specs.Device.{Thermal, Device}
+use Rattle.model.specs.Device.{Thermal}
 use Rattle.model.specs.Temperature.{signed, newMaximum, nextIndex, sampled}
 use Rattle.model.specs.Owner.{sample as sampleDevice}
 use Rattle.model.specs.Machine.{Machine, whileRunning}
-use Rattle.model.specs.Step.{sample as sampleStep, Step, owner, Outcome, step}
+use Rattle.model.specs.Step.{sample as sampleStep, owner, step}
 
 -- ---- the maximum
 

@@ -1,27 +1,26 @@
 -- What a request decides keeps document 01's ranges: the device, the effect and the reply's registers.
-use mathlib.Core.Path.{_≡_, refl, sym, ap, _∙_, subst}
-use mathlib.Core.Bool.{Bool, true, false, not}
+use mathlib.Core.Path.{_≡_, refl, ap, _∙_}
+use mathlib.Core.Bool.{Bool, true, false}
 use mathlib.Core.Logic.{_⊎_, inl, inr}
-use Prim.Native.Nat.{ℕ, zero, suc, _+_, _*_, _^_, _≤_, _<_}
+use Prim.Native.Nat.{ℕ, zero, suc, _^_, _≤_, _<_}
 use native.Mathlib.Omega.{arith}
 use mathlib.Core.List.{List, [], _∷_}
-use lib.ListN.{length, getD, set}
-use lib.Dec.{eqb, ltb}
+use lib.ListN.{length, getD}
 use borrow.Author.Tests.{ltb-true}
-use Rattle.wire.specs.Choice.{if_then_else_, bit, Check, firstFailed, ifPassed}
+use Rattle.wire.specs.Choice.{if_then_else_, Check, firstFailed, ifPassed}
 use Rattle.wire.specs.Bytes.{Bytes}
-use Rattle.wire.proofs.ChoiceLaws.{bit-small, AllPass, Numbered, all-pass, first-bound}
+use Rattle.wire.proofs.ChoiceLaws.{bit-small, all-pass, first-bound}
 use Rattle.wire.proofs.PartsLaws.{length-part}
 use Rattle.wire.proofs.BytesLaws.{bytes-part, get-fits}
-use Rattle.model.specs.Sizes.{sectorSize, registersSize, mailboxSize, portCount}
-use Rattle.model.specs.Device.{Fill, idle, running, Transfer, none, table, fillData, Feature, Settings, Device}
+use Rattle.model.specs.Sizes.{sectorSize, registersSize, mailboxSize}
+use Rattle.model.specs.Device.{Fill, idle, running, Transfer, none, table, fillData, Settings, Device}
 use Rattle.model.specs.Update.{withCode, withKey}
 use Rattle.model.specs.Registers.{Direction, read, write, Request, statusRead, keySector, dataTransfer, sectorAccess, other, dataOf, requestOf, Registers, good, refused, refusedWith}
-use Rattle.model.specs.Key.{word, FeatureName, writeCache, reordering, logInterval, highestState, Action, fillPattern, fillSector, setTimer, returnTimer, setFeature, returnState, returnOption, sendTable, Verdict, accepted, rejected, keyChecks, actionOf, verdict, judgeKey}
+use Rattle.model.specs.Key.{word, FeatureName, writeCache, reordering, logInterval, Action, fillPattern, fillSector, setTimer, returnTimer, setFeature, returnState, returnOption, sendTable, Verdict, accepted, rejected, keyChecks, actionOf, judgeKey}
 use Rattle.model.specs.Fill.{interrupt}
-use Rattle.model.specs.Decide.{Serving, Writing, noWrite, oneSector, newFill, Sending, noData, status, temperatures, diskSector, Effect, nothing, sending, Decision, decision, decideStatus, timer, feature, carryOut, decideVerdict, decideKey, moves, dataChecks, transferEffect, decideData, sectorChecks, sectorEffect, decideSector, pendingFor, decideRequest, decide}
-use Rattle.model.specs.Valid.{TransferValid, PendingValid, pendingCount, pendingLimit, StateValid, SettingsValid, Valid, Sized}
-use Rattle.model.proofs.KeyLaws.{key-codes, verdict-rejected, featureNumber, ActionValid, accepted-valid}
+use Rattle.model.specs.Decide.{Serving, Writing, noWrite, oneSector, newFill, Sending, noData, status, temperatures, diskSector, Effect, nothing, sending, Decision, decision, decideStatus, timer, feature, carryOut, decideVerdict, decideKey, dataChecks, transferEffect, decideData, sectorChecks, sectorEffect, decideSector, pendingFor, decideRequest, decide}
+use Rattle.model.specs.Valid.{TransferValid, PendingValid, pendingCount, pendingLimit, SettingsValid, Valid, Sized}
+use Rattle.model.proofs.KeyLaws.{key-codes, verdict-rejected, ActionValid, accepted-valid}
 use Rattle.model.proofs.FormatLaws.{RegistersFit}
 use Rattle.model.proofs.RequestLaws.{interrupt-kept}
 use Rattle.model.proofs.OwnerLaws.{Quiet, interrupt-quiet}

@@ -1,43 +1,39 @@
 -- Every step keeps document 01's ranges.
-use mathlib.Core.Path.{_≡_, refl, sym, ap, ap₂, _∙_, subst}
+use mathlib.Core.Path.{_≡_, refl, sym, ap, _∙_, subst}
 use mathlib.Core.Bool.{Bool, true, false, _||_}
 use mathlib.Core.Logic.{_⊎_, inl, inr}
-use Prim.Native.Nat.{ℕ, zero, suc, _+_, _*_, _/_, _%_, _^_, _≤_, _<_}
+use Prim.Native.Nat.{ℕ, zero, suc, _*_, _/_, _%_, _≤_, _<_}
 use native.Mathlib.Omega.{arith}
-use mathlib.Core.List.{List, [], _∷_}
-use lib.ListN.{length, getD, drop}
-use lib.Seq.{sets, length-sets}
-use lib.Dec.{eqb, leb}
-use borrow.Author.Tests.{eqb-true, eqb-false, ltb-true}
-use Rattle.wire.specs.Choice.{if_then_else_, between, Check, firstFailed}
-use Rattle.wire.specs.Parts.{part}
+use mathlib.Core.List.{List}
+use lib.ListN.{length}
+use lib.Seq.{length-sets}
+use lib.Dec.{eqb}
+use borrow.Author.Tests.{eqb-true, eqb-false}
+use Rattle.wire.specs.Choice.{if_then_else_, firstFailed}
 use Rattle.wire.specs.Bytes.{Bytes}
 use Rattle.wire.proofs.ChoiceLaws.{and-left, and-right, between-true, all-pass}
-use Rattle.wire.proofs.NumbersLaws.{getD-sets-before, getD-sets-after}
-use Rattle.wire.proofs.PartsLaws.{length-part, drop-sets-after}
+use Rattle.wire.proofs.PartsLaws.{length-part}
 use Rattle.wire.proofs.BytesLaws.{bytes-nil, bytes-part, bytes-sets, bytes-form}
-use Rattle.model.specs.Sizes.{sectorSize, dataSize, mailboxSize, portCount, nativeLimit, historySize}
+use Rattle.model.specs.Sizes.{sectorSize, dataSize, mailboxSize, nativeLimit}
 use Rattle.model.specs.Device.{Fill, idle, running, Device}
 use Rattle.model.specs.Disk.{Disk, withSector}
 use Rattle.model.specs.Update.{withInitialized, withLocked, withFill}
-use Rattle.model.specs.Registers.{replyBytes}
 use Rattle.model.specs.Status.{statusFields, statusSector}
-use Rattle.model.specs.Fill.{Volume, runningCode, wholeDisk, startFill, interrupt, writeSector, advanced, fillStep, sectorStep, iterate, workCount}
+use Rattle.model.specs.Fill.{Volume, runningCode, wholeDisk, interrupt, writeSector, advanced, fillStep, sectorStep, iterate, workCount}
 use Rattle.model.specs.Fill.{work as workVolume}
 use Rattle.model.specs.Decide.{Writing, noWrite, oneSector, newFill, Sending, noData, status, temperatures, diskSector, Decision, decide}
 use Rattle.model.specs.Perform.{written, volumeAfter, fillSectorAfter, contentRead, sent, replyOf}
 use Rattle.model.specs.Owner.{setLock}
 use Rattle.model.specs.Owner.{setVisible as setVisibleDevice, sample as sampleDevice}
-use Rattle.model.specs.Image.{wholeSectors, readable, powerOnChecks, sameDisk, restored, blank, newest}
+use Rattle.model.specs.Image.{readable, powerOnChecks, sameDisk, restored, blank, newest}
 use Rattle.model.specs.Image.{powerOn as powerOnDevice}
 use Rattle.model.specs.Machine.{Port, empty, request, reply, Machine, whileRunning, machine, withPort, heldBytes}
-use Rattle.model.specs.Step.{OwnerStep, lock, unlock, setVisible, sample, Step, take, serve, give, work, owner, save, powerOn, goodValue, checks, unchanged, seenDone, does, isRequest, volume, served, serveDecided, worked, poweredOn, Outcome, step, trace}
-use Rattle.model.specs.Valid.{FillValid, SectorValid, PortValid, Sized, DiskValid, Valid, MachineValid, OwnerFed, Fed}
+use Rattle.model.specs.Step.{OwnerStep, lock, unlock, setVisible, sample, Step, take, serve, give, work, owner, save, powerOn, goodValue, checks, does, isRequest, volume, served, serveDecided, worked, poweredOn, step}
+use Rattle.model.specs.Valid.{SectorValid, PortValid, Sized, DiskValid, Valid, MachineValid, OwnerFed, Fed}
 use Rattle.model.proofs.StepLaws.{step-done, step-refused, answers-numbered}
 use Rattle.model.proofs.FormatLaws.{status-at, table-at, table-bytes, reply-sized}
-use Rattle.model.proofs.EntryLaws.{SavedFits}
 use Rattle.model.proofs.PowerOnLaws.{power-on-valid, blank-fits, blank-ranged, newest-fits, newest-ranged}
-use Rattle.model.proofs.OwnerLaws.{Quiet, interrupt-quiet}
+use Rattle.model.proofs.OwnerLaws.{interrupt-quiet}
 use Rattle.model.proofs.RequestLaws.{interrupt-kept}
 use Rattle.model.proofs.ValidDevice.{initialized-valid, locked-valid, interrupt-command, interrupt-valid, start-valid, advanced-valid, sampled-valid}
 use Rattle.model.proofs.ValidRequest.{WritingValid, SendingValid, DecisionValid, decide-valid}

@@ -4,24 +4,24 @@ use mathlib.Core.Bool.{Bool, true, false, _&&_, and-false}
 use Prim.Native.Nat.{ℕ, zero, suc, _+_, _-_, _*_, _≤_, _<_, min}
 use native.Mathlib.Omega.{arith}
 use native.Mathlib.Decide.{decLt}
-use native.Mathlib.Nat.{add-suc, add-zero}
-use mathlib.Core.List.{List, [], _∷_, _++_, append-nil}
-use lib.ListN.{length, getD, drop}
-use lib.Seq.{sets, length-sets}
+use native.Mathlib.Nat.{add-suc}
+use mathlib.Core.List.{List, append-nil}
+use lib.ListN.{length, getD}
+use lib.Seq.{sets}
 use lib.Dec.{eqb}
 use borrow.Author.Tests.{eq-eqb, ne-eqb}
 use Rattle.wire.specs.Choice.{if_then_else_}
 use Rattle.wire.specs.Parts.{part, repeated}
 use Rattle.wire.proofs.ChoiceLaws.{and-both}
 use Rattle.wire.proofs.NumbersLaws.{getD-sets-before, getD-sets-after}
-use Rattle.wire.proofs.PartsLaws.{part-same, part-part, part-repeated, length-repeated, repeated-snoc, sets-append, drop-sets-after}
+use Rattle.wire.proofs.PartsLaws.{part-same, part-part, part-repeated, length-repeated, repeated-snoc, sets-append}
 use Rattle.model.specs.Sizes.{sectorSize}
 use Rattle.model.specs.Device.{Fill, idle, running, Device}
 use Rattle.model.specs.Update.{withFill, withInitialized}
-use Rattle.model.specs.Fill.{Volume, runningCode, writeSector, wholeDisk, advanced, fillStep, sectorStep, iterate, remaining, workCount}
+use Rattle.model.specs.Fill.{Volume, runningCode, writeSector, wholeDisk, advanced, fillStep, sectorStep, iterate, workCount}
 use Rattle.model.specs.Fill.{work as workVolume}
 use Rattle.model.specs.Machine.{Machine, whileRunning}
-use Rattle.model.specs.Step.{Step, work, Outcome, step, volume, worked}
+use Rattle.model.specs.Step.{work, Outcome, step, volume, worked}
 
 -- a volume of v, its fill moved to a place, with these bytes from the fill's sector next on
 moved : ℕ → ℕ → ℕ → Volume → ℕ → List ℕ → Volume

@@ -1,11 +1,9 @@
 -- The starred examples of document 01 ("V = 64; * = proved"), as one list.
-use Prim.Native.Nat.{ℕ, suc, _-_, _^_}
+use Prim.Native.Nat.{ℕ, _-_, _^_}
 use mathlib.Core.List.{List, [], _∷_, _++_}
-use mathlib.Core.List.{map}
-use Rattle.wire.specs.Parts.{zeros}
 use Rattle.wire.specs.Layout.{Field, form}
 use Rattle.model.specs.Sizes.{sectorSize, registersSize}
-use Rattle.model.specs.Device.{running, Thermal, Device}
+use Rattle.model.specs.Device.{running, Device}
 use Rattle.model.specs.Update.{withThermal}
 use Rattle.model.specs.Registers.{Registers}
 use Rattle.model.specs.Temperature.{emptyHistory}

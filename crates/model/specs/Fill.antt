@@ -1,8 +1,8 @@
 -- The fill: how it starts, moves on by one sector, is worked off under a budget, and is stopped; the ordinary write of a sector.
-use mathlib.Core.Bool.{Bool, true, false, _&&_}
+use mathlib.Core.Bool.{Bool, false, _&&_}
 use Prim.Native.Nat.{ℕ, zero, suc, _-_}
 use Prim.Native.Nat.{min}
-use mathlib.Core.List.{List, [], _∷_}
+use mathlib.Core.List.{List}
 use lib.ListN.{replicate}
 use lib.Dec.{eqb}
 use Rattle.wire.specs.Choice.{if_then_else_}

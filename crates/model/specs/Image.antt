@@ -170,11 +170,11 @@ bodyAt image k = part image (trailerPlace k - bodySize) bodySize
 abbrev pub trailerAt : List ℕ → ℕ → List ℕ
 trailerAt image k = part image (trailerPlace k) trailerSize
 
--- "all entries have the same N": whether an entry is alike the newest. W-204 adds the form here.
+-- "all entries have the same N": whether an entry is like the newest. W-204 adds the form here.
 unfoldable pub alike : Saved → Saved → Bool
 alike latest s = eqb (s .native) (latest .native)
 
--- entry k holds: its body, alike the newest, and its trailer
+-- entry k holds: its body, like the newest, and its trailer
 unfoldable pub entryHolds : Saved → List ℕ → ℕ → Bool
 entryHolds latest image k =
     bodyHolds (bodyAt image k) && alike latest (savedIn (bodyAt image k)) && same (trailerAt image k) (trailerBytes k)

@@ -7,7 +7,7 @@ use Rattle.model.specs.Registers.{Registers, replyBytes}
 use Rattle.model.specs.Status.{statusSector}
 use Rattle.model.specs.Temperature.{tableBytes}
 use Rattle.model.specs.Fill.{Volume, startFill, writeSector}
-use Rattle.model.specs.Decide.{Writing, noWrite, oneSector, newFill, Sending, noData, status, temperatures, diskSector, Effect, Decision}
+use Rattle.model.specs.Decide.{Writing, noWrite, oneSector, newFill, Sending, noData, status, temperatures, diskSector, Decision}
 
 -- ---- what is written
 

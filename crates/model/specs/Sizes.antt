@@ -1,5 +1,5 @@
 -- Sizes, limits and answer numbers of document 01.
-use Prim.Native.Nat.{ℕ, _+_, _*_}
+use Prim.Native.Nat.{ℕ, _+_}
 use mathlib.Core.List.{List, [], _∷_}
 
 -- "Disk: a lent run of 1 to 65,536 sectors of 512 bytes (native size N)."

@@ -9,7 +9,7 @@ use Rattle.wire.proofs.ChoiceLaws.{chosen-refusal, chosen-done, all-pass}
 use Rattle.model.specs.Device.{Device}
 use Rattle.store.specs.Record.{decode, encode}
 use Rattle.store.specs.Sound.{sound}
-use Rattle.store.specs.Entries.{OwnerAfter, ownerDone, ownerBytes, visibleChecks}
+use Rattle.store.specs.Entries.{ownerDone, ownerBytes, visibleChecks}
 use Rattle.record.specs.declared.device as code
 use Rattle.record.specs.Meaning.{asContents, historyOf}
 use Rattle.control.specs.Change.{Changed}

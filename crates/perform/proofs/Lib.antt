@@ -1,4 +1,3 @@
--- Laws of what carrying out a request leaves: the record written (WrittenRecord), a decision performed (PerformLaws), a slot served (ServeLaws).
-pub mod WrittenRecord
+-- Laws of what carrying out a request leaves: a decision performed (PerformLaws), a slot served (ServeLaws).
 pub mod PerformLaws
 pub mod ServeLaws

@@ -1,11 +1,10 @@
 -- A decision performed: the buffers afterwards, from what the called functions ensure.
 use mathlib.Core.Path.{_≡_, refl, sym, ap, _∙_}
-use mathlib.Core.List.{List, []}
-use Prim.Native.Nat.{ℕ, _+_, _*_, _≤_, _<_}
+use mathlib.Core.List.{List}
+use Prim.Native.Nat.{ℕ, _*_, _≤_, _<_}
 use native.Mathlib.Omega.{arith}
-use lib.ListN.{length, length-append, length-take}
+use lib.ListN.{length, length-take}
 use lib.Seq.{sets, length-sets}
-use Rattle.wire.specs.Layout.{form}
 use Rattle.wire.specs.Parts.{part}
 use Rattle.wire.proofs.LayoutLaws.{length-form}
 use Rattle.wire.proofs.WithinLaws.{sets-apart}
@@ -14,23 +13,24 @@ use Rattle.model.specs.Device.{Device}
 use Rattle.model.specs.Disk.{Disk}
 use Rattle.model.specs.Registers.{Registers}
 use Rattle.model.specs.Status.{statusFields, statusSector}
-use Rattle.model.specs.Temperature.{tableFields, tableHeadSize, tableBytes}
 use Rattle.model.specs.Fill.{Volume, writeSector}
 use Rattle.model.specs.Decide.{Writing, noWrite, oneSector, newFill, Sending, noData, status, temperatures, diskSector, Decision}
 use Rattle.model.specs.Perform.{written, volumeAfter, temperatureTable, contentRead, sent, replyWith, replyOf}
 use Rattle.model.proofs.FormatLaws.{reply-length}
+use Rattle.model.proofs.EntryLaws.{length-table}
 use Rattle.store.specs.Areas.{recordSize, headSize, slotPlace, fillPlace}
-use Rattle.store.specs.Record.{Stage, answered, Contents, encode}
+use Rattle.store.specs.Record.{answered, encode}
 use Rattle.store.specs.Store.{slotBytes}
 use Rattle.store.specs.Entries.{withStage, withFillSector}
 use Rattle.record.specs.declared.device as device
 use Rattle.record.specs.Meaning.{asDevice, asContents, stagesOf, historyOf}
 use Rattle.reply.specs.Meaning.{asRegisters}
 use Rattle.control.specs.Change.{Changed}
-use Rattle.decide.specs.declared.decision as code
-use Rattle.decide.specs.Meaning.{asWriting, asSending, historyAfter, asDecision}
-use Rattle.perform.specs.Served.{served, Served, deviceAfter, sectorsAfter}
-use Rattle.perform.proofs.WrittenRecord.{written-size, written-table, written-history}
+use Rattle.decision.specs.declared.decision as code
+use Rattle.decision.specs.Meaning.{asWriting, asSending, historyAfter, asDecision}
+use Rattle.effect.specs.Effects.{deviceAfter, sectorsAfter}
+use Rattle.perform.specs.Served.{Served}
+use Rattle.store.proofs.RecordLaws.{encoded-size, encoded-table, encoded-history}
 
 -- ---- what is written
 
@@ -69,11 +69,11 @@ content-short temperatures disk = omega arith
 content-short (diskSector lba) disk = rw length-take (omega arith)
 
 sent-short : (x : Sending) (d : Device) (content : List ℕ) → length (d .thermal .history) ≡ historySize → length content ≤ sectorSize → length (sent x d content) ≤ dataSize
-unfolding statusSector tableBytes
+unfolding statusSector
 sent-short noData d content h k = omega arith
 sent-short status d content h k = rw (length-form sectorSize (statusFields d)) (omega arith)
 sent-short temperatures d content h k =
-    rw (length-append, length-form tableHeadSize (tableFields (d .settings .logInterval .state) (d .thermal .index)), h) (omega arith)
+    omega (arith, length-table (d .settings .logInterval .state) (d .thermal .index) (d .thermal .history) h)
 sent-short (diskSector lba) d content h k = omega (arith, k)
 
 pub reply-size : (q : Registers) (x : Sending) (d : Device) (disk : Disk) → length (d .thermal .history) ≡ historySize
@@ -107,9 +107,9 @@ module _ (p : ℕ) (k : code.Decision.Decision) (e : device.Device.Device) (g a 
       → (length r ≡ recordSize) × (part r headSize sectorSize ≡ temperatureTable (asDevice e (historyOf r)))
   record-ready r er =
       let c = withStage p answered (asContents e h) in
-      let history : historyOf r ≡ h = ap historyOf er ∙ written-history c whole in (
-        ap length er ∙ written-size c whole,
-        ap (λ (l : List ℕ). part l headSize sectorSize) er ∙ written-table c whole ∙ ap (λ (l : List ℕ). temperatureTable (asDevice e l)) (sym history),
+      let history : historyOf r ≡ h = ap historyOf er ∙ encoded-history c whole in (
+        ap length er ∙ encoded-size c whole,
+        ap (λ (l : List ℕ). part l headSize sectorSize) er ∙ encoded-table c whole ∙ ap (λ (l : List ℕ). temperatureTable (asDevice e l)) (sym history),
       )
 
   -- THE LAW of a decision performed
@@ -119,7 +119,7 @@ module _ (p : ℕ) (k : code.Decision.Decision) (e : device.Device.Device) (g a 
   performs r b newDisk er ed eb =
       let x = asSending (k .sends) in
       let q = asRegisters (k .reply) in
-      let history : historyOf r ≡ h = ap historyOf er ∙ written-history (withStage p answered (asContents e h)) whole in
+      let history : historyOf r ≡ h = ap historyOf er ∙ encoded-history (withStage p answered (asContents e h)) whole in
       record {
         recordBytes =
             er

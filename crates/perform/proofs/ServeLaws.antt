@@ -1,30 +1,29 @@
 -- A slot served: the request decided of the record's device, and performed.
-use mathlib.Core.Path.{_≡_, refl, sym, ap, _∙_, subst}
-use mathlib.Core.Bool.{true}
+use mathlib.Core.Path.{_≡_, sym, ap, _∙_, subst}
 use mathlib.Core.List.{List}
-use Prim.Native.Nat.{ℕ, _+_, _*_, _≤_, _<_}
+use Prim.Native.Nat.{ℕ, _*_, _≤_}
 use native.Mathlib.Omega.{arith}
 use lib.ListN.{length}
 use Rattle.wire.specs.Bytes.{Bytes}
-use Rattle.model.specs.Sizes.{sectorSize, portCount}
+use Rattle.model.specs.Sizes.{sectorSize}
 use Rattle.model.specs.Device.{Device}
 use Rattle.model.specs.Registers.{Request, requestOf}
 use Rattle.model.specs.Decide.{Serving, Decision, decideRequest, decide}
 use Rattle.model.proofs.ValidRequest.{WritingValid, SendingValid, DecisionValid, decide-valid}
-use Rattle.store.specs.Record.{Stage, Contents, decode}
-use Rattle.store.specs.Sound.{sound}
+use Rattle.store.specs.Record.{Contents, decode}
 use Rattle.store.specs.Store.{slotBytes}
 use Rattle.store.proofs.SoundLaws.{sound-valid}
 use Rattle.store.proofs.FollowLaws.{slot-sized}
 use Rattle.record.specs.declared.device as device
-use Rattle.record.specs.Meaning.{asDevice, asContents, stagesOf, historyOf}
+use Rattle.record.specs.Meaning.{asContents, stagesOf, historyOf}
 use Rattle.writing.proofs.FramedLaws.{sound-framed}
 use Rattle.control.proofs.ChangeLaws.{four-slots}
-use Rattle.decide.specs.declared.decision as code
-use Rattle.decide.specs.declared.decision.Writing.the-variants as writes
-use Rattle.decide.specs.declared.decision.Sending.the-variants as sends
-use Rattle.decide.specs.Meaning.{asWriting, asSending, asDecision, Decided}
-use Rattle.perform.specs.Served.{served, Served, WritesWithin, SendsWithin, Performable, Entered}
+use Rattle.decision.specs.declared.decision as code
+use Rattle.decision.specs.declared.decision.Writing.the-variants as writes
+use Rattle.decision.specs.declared.decision.Sending.the-variants as sends
+use Rattle.decision.specs.Meaning.{asWriting, asSending, asDecision, Decided}
+use Rattle.effect.specs.Effects.{WritesWithin, SendsWithin}
+use Rattle.perform.specs.Served.{served, Served, Performable, Entered}
 
 -- "1 ≤ V"
 pub entered-visible : (r a : List ℕ) (p : ℕ) (d : device.Device.Device) → Entered r a p → Bytes r → asContents d (historyOf r) ≡ decode r → 1 ≤ d .visible

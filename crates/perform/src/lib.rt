@@ -1,8 +1,6 @@
-// A held request carried out on record, private area and visible disk, and its reply left in the slot: what is written (write.rt), what
-// the reply carries (send.rt), a decision performed (decision.rt), and the request served (serving.rt).
-mod decision;
-mod send;
+// A held request carried out on record, private area and visible disk, and its reply left in the slot: a decision performed (performing.rt), and
+// the slot served (serving.rt).
+mod performing;
 mod serving;
-mod write;
 
 pub use serving::serve;

@@ -1,5 +1,5 @@
 // The request that a slot holds, decided and performed.
-use crate::decision::perform;
+use crate::performing::perform;
 use sizes::MAILBOX;
 ghost use mathlib.Core.Path.{_≡_};
 ghost use Prim.Native.Nat.{_*_};

@@ -1,12 +1,12 @@
 -- Laws of runs with one more byte at the end, as a loop that goes over them makes them.
-use mathlib.Core.Path.{_≡_, refl, sym, ap, _∙_}
-use mathlib.Core.Bool.{Bool, true, false, _&&_, and-true, and-assoc}
-use Prim.Native.Nat.{ℕ, zero, suc, _+_, _*_, _≤_, _<_}
-use native.Mathlib.Nat.{add-zero, mul-comm}
+use mathlib.Core.Path.{_≡_, sym, ap, _∙_}
+use mathlib.Core.Bool.{_&&_, and-true, and-assoc}
+use Prim.Native.Nat.{ℕ, suc, _+_, _*_, _≤_, _<_}
+use native.Mathlib.Nat.{mul-comm}
 use native.Mathlib.Numerals.{add-one}
 use native.Mathlib.Omega.{arith}
 use mathlib.Core.List.{List, [], _∷_, _++_}
-use lib.ListN.{length, getD, set, take, drop, length-drop, length-replicate, replicate, replicate-append-replicate}
+use lib.ListN.{length, getD, set, drop, length-drop, length-replicate, replicate, replicate-append-replicate}
 use lib.Seq.{sets, take-suc, getD-drop, ext-getD}
 use lib.Dec.{eqb}
 use Rattle.wire.specs.Numbers.{le, get, put}

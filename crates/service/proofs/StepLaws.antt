@@ -9,7 +9,7 @@ use Rattle.wire.proofs.ChoiceLaws.{chosen-refusal, chosen-done}
 use Rattle.model.specs.Sizes.{portCount}
 use Rattle.store.specs.Record.{Stage, stageNumber, slotAt, encode, decode}
 use Rattle.store.specs.Sound.{sound}
-use Rattle.store.specs.Entries.{withStage, TakeAfter, takeChecks, takeDone, takeBytes, ServeAfter, serveChecks, serveDone, serveBytes, GiveAfter, giveChecks, giveDone, giveBytes, WorkAfter, workChecks, workDone, workBytes}
+use Rattle.store.specs.Entries.{withStage, takeChecks, takeDone, takeBytes, serveChecks, serveDone, serveBytes, giveChecks, giveDone, giveBytes, workChecks, workDone, workBytes}
 use Rattle.store.proofs.SoundLaws.{sound-parts}
 use Rattle.store.proofs.StageLaws.{stage-stored}
 

@@ -1,25 +1,23 @@
 -- The hidden sectors are not handed on: a step on the visible part, and the hidden bytes behind it, are the step on the whole disk.
 use mathlib.Core.Path.{_≡_, refl, sym, ap, _∙_}
-use mathlib.Core.Bool.{true}
 use mathlib.Core.List.{List, _++_}
 use Prim.Native.Nat.{ℕ, _+_, _*_, _≤_, _<_}
 use native.Mathlib.Omega.{arith}
-use lib.ListN.{length, take, drop, length-drop, take-append-drop}
-use lib.Seq.{sets, length-sets, length-take-le, take-append-le, drop-append-le}
+use lib.ListN.{length, take, drop, take-append-drop}
+use lib.Seq.{sets, length-sets, length-take-le}
 use Rattle.wire.specs.Bytes.{Bytes}
 use Rattle.wire.specs.Parts.{part}
-use Rattle.wire.proofs.PartsLaws.{sets-front}
-use Rattle.model.specs.Sizes.{sectorSize}
+use Rattle.wire.proofs.PartsLaws.{part-front, sets-front}
+use Rattle.model.specs.Sizes.{sectorSize, portCount}
 use Rattle.model.specs.Device.{Device}
 use Rattle.model.specs.Fill.{Volume, writeSector}
 use Rattle.model.specs.Decide.{Writing, noWrite, oneSector, newFill, Sending, noData, status, temperatures, diskSector, Decision, decide}
 use Rattle.model.specs.Perform.{written, volumeAfter, contentRead, replyWith}
 use Rattle.model.proofs.ValidRequest.{WritingValid, SendingValid, DecisionValid, decide-valid}
-use Rattle.store.specs.Areas.{slotPlace, privateSize}
+use Rattle.store.specs.Areas.{slotPlace}
 use Rattle.store.specs.Record.{answered, decode, encode}
 use Rattle.store.specs.Store.{slotBytes}
-use Rattle.store.specs.Sound.{sound}
-use Rattle.store.specs.Entries.{withStage, withDevice, withFillSector, ServeAfter, serveDone, WorkAfter, workDone}
+use Rattle.store.specs.Entries.{withStage, withDevice, withFillSector, serveDone, workDone}
 use Rattle.store.proofs.SoundLaws.{sound-valid}
 use Rattle.store.proofs.FollowLaws.{slot-sized}
 use Rattle.fill.proofs.StepsLaws.{hidden-record, hidden-disk}
@@ -53,11 +51,6 @@ module _ (r a disk : List ℕ) (e n : ℕ) (s : Seen r a disk e) where
       ap (λ (l : List ℕ). l ++ drop e disk) h
       ∙ hidden-disk r a (take e disk) (drop e disk) n (s .passed .areaSized) (s .bytes) (s .passed .isSound) (s .size)
       ∙ ap (λ (l : List ℕ). workDone r a l n .disk) (take-append-drop e disk)
-
--- a part of the first of two runs
-part-front : (xs ys : List ℕ) (i m : ℕ) → i + m ≤ length xs → part (xs ++ ys) i m ≡ part xs i m
-part-front xs ys i m h =
-    ap (take m) (drop-append-le i xs ys (omega arith)) ∙ take-append-le m (drop i xs) ys (rw (length-drop i xs) (omega arith))
 
 -- ---- what is written lies on the visible disk
 
@@ -103,7 +96,7 @@ module _ (r : List ℕ) (p : ℕ) (a disk : List ℕ) (e : ℕ) (s : Seen r a di
   abbrev hidden : List ℕ
   hidden = drop e disk
 
-  module _ (ab : Bytes a) (port : p < 4) where
+  module _ (ab : Bytes a) (port : p < portCount) where
     valid : DecisionValid (decode r .device) decided
     valid =
         decide-valid (record { port = p }) (slotBytes p a) (decode r .device) (sound-valid r (s .bytes) (s .passed .isSound) .device)

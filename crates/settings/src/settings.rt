@@ -4,6 +4,7 @@ use record::Direction;
 use record::Feature;
 use record::FeatureName;
 use record::Settings;
+use sizes::EMPTY_INDEX;
 ghost use mathlib.Core.Path.{_≡_};
 ghost use Rattle.model.specs.Update.{withSettings};
 ghost use Rattle.model.specs.Decide.{timer, withTimer, feature, withFeature};
@@ -112,7 +113,7 @@ pub fn set_feature(d: Device, name: FeatureName, state: u16, persistent: bool) -
     e.settings = t;
     if is_interval(name) {
         let mut thermal = d.thermal;
-        thermal.index = 477;
+        thermal.index = EMPTY_INDEX;
         thermal.minutes = 0;
         e.thermal = thermal;
         return e;

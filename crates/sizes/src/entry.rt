@@ -26,7 +26,7 @@ pub const TABLE_AT: usize = 32;
 pub const ZEROS: usize = TABLE_AT - ZEROS_AT;
 
 // .. and in that table the interval, the index and the history
-pub const LOGGED_AT: usize = TABLE_AT + table::INTERVAL_AT;
+pub const TABLE_INTERVAL_AT: usize = TABLE_AT + table::INTERVAL_AT;
 
 pub const INDEX_AT: usize = TABLE_AT + table::INDEX_AT;
 

@@ -1,21 +1,16 @@
 -- What holds of every list of steps after a power-on that answers 0, beside condition 3.
-use mathlib.Core.Path.{_≡_, refl, sym, ap, _∙_}
-use Prim.Native.Nat.{ℕ, _<_}
-use native.Mathlib.Omega.{arith}
+use mathlib.Core.Path.{_≡_, sym, ap, _∙_}
+use Prim.Native.Nat.{ℕ}
 use mathlib.Core.List.{List, [], _∷_}
 use lib.ListN.{length}
-use borrow.Author.Tests.{eqb-true, ltb-true}
-use Rattle.wire.specs.Choice.{firstFailed}
 use Rattle.wire.specs.Bytes.{Bytes}
-use Rattle.wire.proofs.ChoiceLaws.{all-pass}
-use Rattle.model.specs.Sizes.{portCount, mailboxSize}
 use Rattle.model.specs.Device.{Device}
 use Rattle.model.specs.Disk.{Disk}
 use Rattle.model.specs.Machine.{Machine, request}
 use Rattle.model.specs.Image.{savedFrom}
-use Rattle.model.specs.Step.{Step, take, save, checks, step}
+use Rattle.model.specs.Step.{Step, take, save}
 use Rattle.model.specs.Valid.{Fed, Each}
-use Rattle.model.proofs.StepLaws.{step-done, answers-numbered, port-same}
+use Rattle.model.proofs.StepLaws.{step-done, port-same}
 use Rattle.model.proofs.TakenLaws.{AllLeave}
 use Rattle.model.proofs.PowerOnLaws.{KeptRules}
 use Rattle.store.specs.Areas.{recordSize, privateSize}
@@ -27,7 +22,7 @@ use Rattle.store.specs.Condition3.{started}
 use Rattle.store.proofs.FollowLaws.{StoreValid}
 use Rattle.store.proofs.StepFollows.{follows}
 use Rattle.store.proofs.Condition3Holds.{started-valid}
-use Rattle.store.proofs.AnswerLaws.{ListAnswersRight, list-answers, storeAfter, entry-answer, request-kept, step-answer}
+use Rattle.store.proofs.AnswerLaws.{ListAnswersRight, list-answers, storeAfter, request-kept, step-answer}
 use Rattle.store.proofs.SavedBack.{power-on-saved, saved-read-back}
 
 -- the bytes stay valid along a list

@@ -1,34 +1,31 @@
 -- Condition 1, and which answers a list of steps can give.
 use mathlib.Core.Path.{_≡_, refl, sym, ap, subst, _∙_}
-use mathlib.Core.Bool.{Bool, true, false, _&&_}
+use mathlib.Core.Bool.{Bool, true, false}
 use mathlib.Core.Logic.{_↔_}
-use Prim.Native.Nat.{ℕ, zero, suc, _+_, _*_, _/_, _%_, _≤_, _<_}
+use Prim.Native.Nat.{ℕ, suc, _*_, _/_, _%_, _≤_, _<_}
 use native.Mathlib.Omega.{arith}
 use mathlib.Core.List.{List, [], _∷_}
 use lib.ListN.{length, drop}
-use lib.Dec.{eqb, leb, ltb}
+use lib.Dec.{eqb, leb}
 use borrow.Author.Tests.{eqb-true, eqb-false, eq-eqb, leb-true, leb-false, le-leb}
 use Rattle.wire.specs.Choice.{if_then_else_, Check, firstFailed}
-use Rattle.wire.specs.Bytes.{Bytes}
-use Rattle.wire.proofs.ChoiceLaws.{AllPass, Numbered, between-within, first-bound, all-pass, pass-all}
-use Rattle.model.specs.Sizes.{sectorSize, nativeLimit, mailboxSize, entrySize}
-use Rattle.model.specs.Image.{wholeSectors, readable, sameDisk, savedImage}
-use Rattle.model.specs.Image.{saveChecks as savingChecks}
-use Rattle.model.specs.Machine.{Port, Machine, request}
-use Rattle.model.specs.Step.{Step, take, serve, give, work, owner, save, powerOn, Seen, Outcome, checks, unchanged, step}
+use Rattle.wire.proofs.ChoiceLaws.{Numbered, between-within, first-bound, all-pass, pass-all}
+use Rattle.model.specs.Sizes.{sectorSize, nativeLimit, mailboxSize}
+use Rattle.model.specs.Image.{wholeSectors, readable, sameDisk}
+use Rattle.model.specs.Machine.{Machine, request}
+use Rattle.model.specs.Step.{Step, take, serve, give, work, owner, save, powerOn, Seen, checks, unchanged, step}
 use Rattle.model.specs.Valid.{Fed, Each, MachineValid}
-use Rattle.model.proofs.StepLaws.{keepsOrder, answer-first, answer-is, step-done, step-refused}
+use Rattle.model.proofs.StepLaws.{keepsOrder, answer-first, answer-is}
 use Rattle.model.proofs.LimitLaws.{whole-sectors}
 use Rattle.model.proofs.TakenLaws.{LeavesRequest, AllLeave, after, requests-stay}
 use Rattle.model.proofs.RefusalLaws.{power-on-empty}
 use Rattle.store.specs.Areas.{recordSize, privateSize}
-use Rattle.store.specs.Record.{decode}
 use Rattle.store.specs.Store.{Store, machineOf}
 use Rattle.store.specs.Entries.{powerOnChecks, powerOnBytes}
-use Rattle.store.specs.OnStore.{store, onStore}
+use Rattle.store.specs.OnStore.{onStore}
 use Rattle.store.proofs.EntryLaws.{storeChecks, doneStore, doneSeen, on-refused, on-done}
-use Rattle.store.proofs.FollowLaws.{StoreValid, contents-valid, machine-valid}
-use Rattle.store.proofs.StepFollows.{Follows, follows}
+use Rattle.store.proofs.FollowLaws.{StoreValid, machine-valid}
+use Rattle.store.proofs.StepFollows.{follows}
 use Rattle.store.proofs.Condition3Holds.{power-on-answer}
 
 -- ---- condition 1: "Every entry refuses bad input by number and returns for every input"
@@ -181,7 +178,7 @@ power-on-exactly r a disk image used = (
 )
 
 -- THEOREM: it does so for every disk of 1 to 65,536 whole sectors with used length 0.
-pub power-on-fresh : (r a disk image : List ℕ) (n : ℕ) → length r ≡ recordSize → length a ≡ privateSize → length disk ≡ sectorSize * n → 1 ≤ n → n ≤ nativeLimit
+pub power-on-fresh : (r a disk image : List ℕ) (n : ℕ) → length r ≡ recordSize → length a ≡ privateSize → length disk ≡ 512 * n → 1 ≤ n → n ≤ 65536
     → powerOnBytes r a disk image 0 .answer ≡ 0
 power-on-fresh r a disk image n size private sectors some most =
     let whole : wholeSectors (length disk) ≡ true = whole-sectors (length disk) .1 (omega arith, omega arith, omega arith) in

@@ -3,7 +3,6 @@ use mathlib.Core.Path.{_≡_, refl, sym, ap, ap₂, _∙_}
 use Prim.Native.Nat.{ℕ, zero, suc}
 use native.Mathlib.Omega.{arith}
 use mathlib.Core.List.{List, [], _∷_, map}
-use lib.ListN.{length, drop}
 use Rattle.wire.specs.Choice.{firstFailed, ifPassed}
 use Rattle.wire.specs.Parts.{zeros}
 use Rattle.wire.specs.Bytes.{Bytes}
@@ -11,8 +10,8 @@ use Rattle.wire.proofs.ChoiceLaws.{Numbered, all-pass, pass-all}
 use Rattle.model.specs.Image.{powerOnChecks as diskChecks}
 use Rattle.model.specs.Disk.{Disk, hiddenPart}
 use Rattle.model.specs.Machine.{Machine}
-use Rattle.model.specs.Step.{Step, Outcome, Seen, poweredOn, firstAnswer, step, trace}
-use Rattle.model.specs.Valid.{Fed, Each, MachineValid}
+use Rattle.model.specs.Step.{Step, Outcome, poweredOn, firstAnswer, step, trace}
+use Rattle.model.specs.Valid.{Fed, Each}
 use Rattle.model.proofs.ValidStep.{power-on-machine}
 use Rattle.model.proofs.HiddenLaws.{step-hidden}
 use Rattle.store.specs.Areas.{privateSize}
@@ -20,7 +19,7 @@ use Rattle.store.specs.Record.{encode}
 use Rattle.store.specs.Store.{Store, machineOf}
 use Rattle.store.specs.Entries.{PowerOnAfter, powerOnChecks, poweredContents, powerOnDone, powerOnBytes}
 use Rattle.store.specs.OnStore.{store, onStore}
-use Rattle.store.specs.Condition3.{asMachine, keptHidden, HiddenKept, started, FollowsMachine, Condition3}
+use Rattle.store.specs.Condition3.{asMachine, HiddenKept, started, FollowsMachine, Condition3}
 use Rattle.store.proofs.FollowLaws.{StoreValid, machine-valid}
 use Rattle.store.proofs.StepFollows.{Follows, follows, powered-store}
 

@@ -1,14 +1,13 @@
 -- An entry is done or refused: what its checks say, and that a refusal leaves everything as it was.
-use mathlib.Core.Path.{_≡_, refl, sym, ap, _∙_}
-use mathlib.Core.Bool.{true, false}
+use mathlib.Core.Path.{_≡_, refl}
 use Prim.Native.Nat.{ℕ, suc}
-use mathlib.Core.List.{List, [], _∷_}
+use mathlib.Core.List.{List, []}
 use Rattle.wire.specs.Choice.{Check, firstFailed}
 use Rattle.model.specs.Sizes.{done}
-use Rattle.model.specs.Step.{Step, take, serve, give, work, owner, save, powerOn, Seen, Outcome, answerOnly, answeredMailbox, answeredImage, unchanged, ownerRule}
+use Rattle.model.specs.Step.{OwnerStep, lock, unlock, setVisible, sample, Step, take, serve, give, work, owner, save, powerOn, Seen, answerOnly, answeredMailbox, answeredImage, unchanged, ownerRule}
 use Rattle.store.specs.Store.{Store}
-use Rattle.store.specs.Entries.{takeChecks, takeDone, takeBytes, serveChecks, serveDone, serveBytes, giveChecks, giveDone, giveBytes, workChecks, workDone, workBytes, ownerChecks, ownerDone, ownerBytes, ownerEntry, saveChecks, saveDone, saveBytes, powerOnChecks, powerOnDone, powerOnBytes}
-use Rattle.store.specs.OnStore.{store, onStore}
+use Rattle.store.specs.Entries.{takeChecks, takeDone, takeBytes, serveChecks, serveDone, serveBytes, giveChecks, giveDone, giveBytes, workChecks, workDone, workBytes, ownerChecks, ownerDone, ownerEntry, lockBytes, unlockBytes, setVisibleBytes, sampleBytes, saveChecks, saveDone, saveBytes, powerOnChecks, powerOnDone, powerOnBytes}
+use Rattle.store.specs.OnStore.{store, ownerBytes, onStore}
 
 -- the checks of an entry
 abbrev pub storeChecks : Step → Store → List Check
@@ -44,6 +43,14 @@ doneSeen (owner x) s = answerOnly done
 doneSeen (save image used) s = let o = saveDone (s .recordArea) image used in answeredImage done (o .image) (o .used)
 doneSeen (powerOn image used) s = answeredImage done image used
 
+-- each of the four is the entry of its step
+owner-is : (x : OwnerStep) (r : List ℕ) → ownerBytes x r ≡ ownerEntry x r
+unfolding lockBytes unlockBytes setVisibleBytes sampleBytes
+owner-is lock r = refl
+owner-is unlock r = refl
+owner-is (setVisible v) r = refl
+owner-is (sample reading) r = refl
+
 -- THEOREM, condition 1: a nonzero answer leaves record, private area, disk, mailbox and image as they were, and work reports 0.
 pub on-refused : (x : Step) (s : Store) (n : ℕ) → firstFailed (storeChecks x s) ≡ suc n → onStore x s ≡ record { state = s; seen = unchanged x (suc n) }
 unfolding onStore takeBytes serveBytes giveBytes workBytes saveBytes powerOnBytes
@@ -51,7 +58,7 @@ on-refused (take p m) s n e = rw e
 on-refused (serve x) s n e = rw e
 on-refused (give p m) s n e = rw e
 on-refused (work k) s n e = rw e
-on-refused (owner x) s n e = rw e
+on-refused (owner x) s n e = rw (owner-is x (s .recordArea), e)
 on-refused (save image used) s n e = rw e
 on-refused (powerOn image used) s n e = rw e
 
@@ -61,6 +68,6 @@ on-done (take p m) s e = rw e
 on-done (serve x) s e = rw e
 on-done (give p m) s e = rw e
 on-done (work k) s e = rw e
-on-done (owner x) s e = rw e
+on-done (owner x) s e = rw (owner-is x (s .recordArea), e)
 on-done (save image used) s e = rw e
 on-done (powerOn image used) s e = rw e

@@ -1,4 +1,4 @@
--- The answer table at the entries, in numbers: an entry that passes the checks before and fails this one has this answer.
+-- The answer table at the entries: an entry that passes the checks before and fails this one has this answer.
 use mathlib.Core.Path.{_≡_, refl, _∙_}
 use mathlib.Core.Bool.{Bool, true, false}
 use Prim.Native.Nat.{ℕ, _*_, _/_, _≤_, _<_}
@@ -12,7 +12,7 @@ use Rattle.model.specs.Image.{powerOnChecks as diskChecks}
 use Rattle.model.specs.Step.{setVisible, Step, take, serve, give, work, owner, save, powerOn}
 use Rattle.model.specs.Decide.{Serving}
 use Rattle.model.proofs.RefusalLaws.{power-on-disk, power-on-length, power-on-unreadable, power-on-other}
-use Rattle.model.specs.Sizes.{mailboxSize, sectorSize}
+use Rattle.model.specs.Sizes.{mailboxSize}
 use Rattle.store.specs.Record.{decode}
 use Rattle.store.specs.Sound.{sound}
 use Rattle.store.specs.Store.{Store, stageFor}
@@ -80,12 +80,12 @@ module _ (s : Store) (isSound : sound (s .recordArea) ≡ true) where
 
   module _ (private : length (s .privateArea) ≡ privateSize) where
     -- 2: "the disk isn't N sectors"
-    module _ (other : length (s .disk .sectors) ≡ sectorSize * decode (s .recordArea) .device .native → ⊥) where
+    module _ (other : length (s .disk .sectors) ≡ 512 * decode (s .recordArea) .device .native → ⊥) where
       pub serve-disk : (x : Serving) → answerOf (serve x) s ≡ 2
-      serve-disk x = entry-answer (serve x) s ∙ rw (isSound, eq-eqb (length (s .privateArea)) privateSize private, ne-eqb (length (s .disk .sectors)) (sectorSize * decode (s .recordArea) .device .native) other)
+      serve-disk x = entry-answer (serve x) s ∙ rw (isSound, eq-eqb (length (s .privateArea)) privateSize private, ne-eqb (length (s .disk .sectors)) (512 * decode (s .recordArea) .device .native) other)
 
       pub work-disk : (n : ℕ) → answerOf (work n) s ≡ 2
-      work-disk n = entry-answer (work n) s ∙ rw (isSound, eq-eqb (length (s .privateArea)) privateSize private, ne-eqb (length (s .disk .sectors)) (sectorSize * decode (s .recordArea) .device .native) other)
+      work-disk n = entry-answer (work n) s ∙ rw (isSound, eq-eqb (length (s .privateArea)) privateSize private, ne-eqb (length (s .disk .sectors)) (512 * decode (s .recordArea) .device .native) other)
 
     -- 1: "port above 3"; 3: "slot not in the stage the step needs"
     module _ (p : ℕ) (m : List ℕ) (mailbox : length m ≡ mailboxSize) where
@@ -101,16 +101,16 @@ module _ (s : Store) (isSound : sound (s .recordArea) ≡ true) where
       pub give-stage : p < 4 → isAnswered (stageFor p (decode (s .recordArea))) ≡ false → answerOf (give p m) s ≡ 3
       give-stage h k = entry-answer (give p m) s ∙ rw (isSound, eq-eqb (length m) mailboxSize mailbox, eq-eqb (length (s .privateArea)) privateSize private, lt-ltb p 4 h, k)
 
-    module _ (x : Serving) (whole : length (s .disk .sectors) ≡ sectorSize * decode (s .recordArea) .device .native) where
+    module _ (x : Serving) (whole : length (s .disk .sectors) ≡ 512 * decode (s .recordArea) .device .native) where
       pub serve-port : 4 ≤ x .port → answerOf (serve x) s ≡ 1
       serve-port h =
           entry-answer (serve x) s
-          ∙ rw (isSound, eq-eqb (length (s .privateArea)) privateSize private, eq-eqb (length (s .disk .sectors)) (sectorSize * decode (s .recordArea) .device .native) whole, le-ltb (x .port) 4 h)
+          ∙ rw (isSound, eq-eqb (length (s .privateArea)) privateSize private, eq-eqb (length (s .disk .sectors)) (512 * decode (s .recordArea) .device .native) whole, le-ltb (x .port) 4 h)
 
       pub serve-stage : x .port < 4 → isHeld (stageFor (x .port) (decode (s .recordArea))) ≡ false → answerOf (serve x) s ≡ 3
       serve-stage h k =
           entry-answer (serve x) s
-          ∙ rw (isSound, eq-eqb (length (s .privateArea)) privateSize private, eq-eqb (length (s .disk .sectors)) (sectorSize * decode (s .recordArea) .device .native) whole, lt-ltb (x .port) 4 h, k)
+          ∙ rw (isSound, eq-eqb (length (s .privateArea)) privateSize private, eq-eqb (length (s .disk .sectors)) (512 * decode (s .recordArea) .device .native) whole, lt-ltb (x .port) 4 h, k)
 
   -- 5: "V asked is 0 or above N"
   pub visible-zero : answerOf (owner (setVisible 0)) s ≡ 5
@@ -162,5 +162,5 @@ module _ (image : List ℕ) (used : ℕ) (s : Store) where
           pub on-unreadable : readable image used ≡ false → answerOf (powerOn image used) s ≡ 6
           on-unreadable e = on-areas ∙ power-on-unreadable (s .disk .sectors) image used whole fits e
 
-          pub on-other : readable image used ≡ true → sameDisk (length (s .disk .sectors) / sectorSize) image used ≡ false → answerOf (powerOn image used) s ≡ 7
+          pub on-other : readable image used ≡ true → sameDisk (length (s .disk .sectors) / 512) image used ≡ false → answerOf (powerOn image used) s ≡ 7
           on-other read e = on-areas ∙ power-on-other (s .disk .sectors) image used whole fits read e

@@ -1,26 +1,26 @@
 -- Valid bytes, the machine that they say, and what a store into a slot or the fill sector changes of it.
-use mathlib.Core.Path.{_≡_, refl, sym, ap, ap₂, _∙_, subst, fun-ext}
-use mathlib.Core.Bool.{Bool, true, false, _&&_}
-use mathlib.Core.Logic.{_⊎_, inl, inr}
-use Prim.Native.Nat.{ℕ, zero, suc, _+_, _*_, _/_, _≤_, _<_}
+use mathlib.Core.Path.{_≡_, refl, sym, ap, ap₂, subst}
+use mathlib.Core.Bool.{Bool, true, false}
+use Prim.Native.Nat.{ℕ, _+_, _≤_, _<_}
 use native.Mathlib.Omega.{arith}
 use native.Mathlib.Decide.{decLt, decLe}
-use mathlib.Core.List.{List, [], _∷_}
-use lib.ListN.{length, getD, set, length-set, List·getD-eq-default, replicate}
-use lib.Seq.{sets, length-sets, getD-set-same, getD-set-other}
-use lib.Dec.{eqb, ltb}
-use borrow.Author.Tests.{eqb-true, eqb-false, eq-eqb, ltb-true}
-use Rattle.wire.specs.Choice.{if_then_else_, Check, firstFailed}
-use Rattle.wire.specs.Parts.{part, zeros}
+use mathlib.Core.List.{List}
+use lib.ListN.{length, getD, set, List·getD-eq-default}
+use lib.Seq.{sets, getD-set-same, getD-set-other}
+use lib.Dec.{eqb}
+use borrow.Author.Tests.{eqb-true, eqb-false}
+use Rattle.wire.specs.Choice.{if_then_else_}
+use Rattle.wire.specs.Parts.{part}
 use Rattle.wire.specs.Bytes.{Bytes}
-use Rattle.wire.proofs.PartsLaws.{part-after, part-before, part-same, length-part, length-zeros}
-use Rattle.wire.proofs.BytesLaws.{bytes-part, bytes-sets, bytes-zeros}
-use Rattle.model.specs.Sizes.{sectorSize, portCount, mailboxSize}
-use Rattle.model.specs.Device.{Fill, idle, running, Device}
+use Rattle.wire.proofs.PartsLaws.{part-after, part-before, part-same, part-part, length-part}
+use Rattle.wire.proofs.BytesLaws.{bytes-part}
+use Rattle.model.specs.Sizes.{sectorSize, registersSize, mailboxSize}
+use Rattle.model.specs.Device.{Fill, idle, running}
 use Rattle.model.specs.Disk.{Disk}
-use Rattle.model.specs.Machine.{Port, Machine, whileRunning, machine, withPort}
-use Rattle.model.specs.Machine.{empty as nothing, request, reply}
-use Rattle.model.specs.Valid.{SectorValid, PortValid, Sized, DiskValid, Valid, MachineValid}
+use Rattle.model.specs.Registers.{dataOf}
+use Rattle.model.specs.Machine.{whileRunning, withPort}
+use Rattle.model.specs.Machine.{empty as nothing}
+use Rattle.model.specs.Valid.{SectorValid, PortValid, Sized, DiskValid, MachineValid}
 use Rattle.store.specs.Areas.{slotSize, slotPlace, fillPlace, privateSize}
 use Rattle.store.specs.Record.{Stage, empty, held, answered, Contents, encode, decode}
 use Rattle.store.specs.Sound.{sound}
@@ -96,6 +96,10 @@ store-encoded c a disk v p k =
     }
 
 -- ---- slots
+
+-- the data of slot p, where it stands in the area
+pub slot-data : (a : List ℕ) (p : ℕ) → part a (slotPlace p + registersSize) sectorSize ≡ dataOf (slotBytes p a)
+slot-data a p = sym (part-part a (slotPlace p) slotSize registersSize sectorSize (omega arith))
 
 -- bytes stored in slot p are slot p's, and leave every other slot
 slot-same : (a x : List ℕ) (p : ℕ) → length x ≡ slotSize → p < 4 → length a ≡ privateSize → slotBytes p (sets a (slotPlace p) x) ≡ x

@@ -1,6 +1,6 @@
 -- The record of valid contents says those contents: what is encoded is decoded again.
 use mathlib.Core.Path.{_≡_, refl, sym, ap, _∙_}
-use mathlib.Core.Bool.{Bool, true, false}
+use mathlib.Core.Bool.{Bool}
 use Prim.Native.Nat.{ℕ, zero, suc, _+_, _^_, _≤_, _<_}
 use native.Mathlib.Omega.{arith}
 use mathlib.Core.List.{List, [], _∷_, _++_}
@@ -16,10 +16,10 @@ use Rattle.wire.proofs.LayoutLaws.{length-form, reads-form, reads-append, reads
 use Rattle.wire.proofs.BytesLaws.{bytes-append, bytes-form}
 use Rattle.model.specs.Sizes.{sectorSize, nativeLimit, historySize}
 use Rattle.model.specs.Device.{Fill, idle, running, Transfer, none, table, fillData, Device}
-use Rattle.model.specs.Temperature.{tableIntervalPlace, tableIndexPlace, tableHeadSize, tableBytes}
+use Rattle.model.specs.Temperature.{tableIntervalPlace, tableIndexPlace, tableHeadSize, tableBytes, tableFields}
 use Rattle.model.specs.Valid.{FillValid, TransferValid, PendingValid, Valid}
 use Rattle.model.proofs.FormatLaws.{TableAt, table-at, table-bytes}
-use Rattle.model.proofs.EntryLaws.{flag-back}
+use Rattle.model.proofs.EntryLaws.{flag-back, length-table}
 use Rattle.store.specs.Areas.{recordSize, headSize}
 use Rattle.store.specs.Record.{Stage, empty, held, answered, Contents, stageNumber, fillKind, fillFirst, fillNext, fillEnd, transferKind, transferFirst, transferEnd, sizeFields, commandFields, settingsFields, thermalFields, fillFields, slotAt, slotFields, slotOf, slotsFields, headFields, encode, stageOf, fillOf, transferOf, flagOf, stageAt, transferAt, decode}
 
@@ -137,6 +137,37 @@ valid-fits c v =
 
 -- ---- the record's bytes
 
+-- ---- a record of contents whose history is whole
+
+module _ (c : Contents) (whole : length (c .device .thermal .history) ≡ historySize) where
+  abbrev interval : ℕ
+  interval = c .device .settings .logInterval .state
+
+  abbrev index : ℕ
+  index = c .device .thermal .index
+
+  abbrev history : List ℕ
+  history = c .device .thermal .history
+
+  pub encoded-size : length (encode c) ≡ recordSize
+  unfolding encode
+  encoded-size = rw (length-append, length-form headSize (headFields c), length-table interval index history whole)
+
+  -- the second half is the temperature table ..
+  pub encoded-table : part (encode c) headSize sectorSize ≡ tableBytes interval index history
+  unfolding encode
+  encoded-table =
+      part-append-right (form headSize (headFields c)) (tableBytes interval index history) headSize sectorSize (length-form headSize (headFields c))
+      (length-table interval index history whole)
+
+  -- .. and the history is its end
+  pub encoded-history : part (encode c) (headSize + tableHeadSize) historySize ≡ history
+  unfolding tableBytes
+  encoded-history =
+      sym (part-part (encode c) headSize sectorSize tableHeadSize historySize (omega arith))
+      ∙ ap (λ (l : List ℕ). part l tableHeadSize historySize) encoded-table
+      ∙ part-append-right (form tableHeadSize (tableFields interval index)) history tableHeadSize historySize (length-form tableHeadSize (tableFields interval index)) whole
+
 module _ (c : Contents) (v : ContentsFit c) where
   abbrev pub e : Device
   e = c .device
@@ -147,8 +178,7 @@ module _ (c : Contents) (v : ContentsFit c) where
       table-at (e .settings .logInterval .state) (e .thermal .index) (e .thermal .history) (v .interval) (v .index) (v .history)
 
   pub length-encode : length (encode c) ≡ recordSize
-  unfolding encode
-  length-encode = rw (length-append, length-form headSize (headFields c), table-says .size)
+  length-encode = encoded-size c (v .history)
 
   pub bytes-encode : Bytes (encode c)
   unfolding encode
@@ -185,10 +215,7 @@ module _ (c : Contents) (v : ContentsFit c) where
 
   -- the second half is the table
   pub table-part : part (encode c) headSize sectorSize ≡ tableBytes (e .settings .logInterval .state) (e .thermal .index) (e .thermal .history)
-  unfolding encode
-  table-part =
-      part-append-right (form headSize (headFields c)) (tableBytes (e .settings .logInterval .state) (e .thermal .index) (e .thermal .history)) headSize sectorSize
-      (length-form headSize (headFields c)) (table-says .size)
+  table-part = encoded-table c (v .history)
 
   interval-read : get 2 (encode c) (headSize + tableIntervalPlace) ≡ e .settings .logInterval .state
   interval-read =
@@ -203,10 +230,7 @@ module _ (c : Contents) (v : ContentsFit c) where
       ∙ table-says .indexAt
 
   history-read : part (encode c) (headSize + tableHeadSize) historySize ≡ e .thermal .history
-  history-read =
-      sym (part-part (encode c) headSize sectorSize tableHeadSize historySize (omega arith))
-      ∙ ap (λ (l : List ℕ). part l tableHeadSize historySize) table-part
-      ∙ table-says .historyAt
+  history-read = encoded-history c (v .history)
 
 -- ---- cases are read back
 

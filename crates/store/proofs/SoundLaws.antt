@@ -1,29 +1,27 @@
 -- Soundness is document 01's list of clauses, neither weaker nor stricter, and a sound record is the record of exactly one device.
-use mathlib.Core.Path.{_≡_, refl, sym, ap, ap₂, _∙_, subst}
-use mathlib.Core.Bool.{Bool, true, false, not, _&&_, _||_}
-use mathlib.Core.Logic.{_⊎_, inl, inr, _↔_}
-use Prim.Native.Nat.{ℕ, zero, suc, _+_, _*_, _^_, _≤_, _<_}
+use mathlib.Core.Path.{_≡_, refl, sym, ap, _∙_, subst}
+use mathlib.Core.Bool.{Bool, true, false, _&&_, _||_}
+use mathlib.Core.Logic.{inl, inr, _↔_}
+use Prim.Native.Nat.{ℕ, _+_, _^_, _<_}
 use native.Mathlib.Omega.{arith}
 use mathlib.Core.List.{List, [], _∷_}
-use lib.ListN.{length, getD}
+use lib.ListN.{length}
 use lib.Dec.{eqb, leb, ltb}
 use borrow.Author.Tests.{eqb-true, eqb-false, eq-eqb, ne-eqb, leb-true, le-leb, ltb-true, lt-ltb, not-true}
-use Rattle.wire.specs.Choice.{if_then_else_, bit, between}
-use Rattle.wire.specs.Parts.{part}
-use Rattle.wire.specs.Layout.{Fit}
+use Rattle.wire.specs.Choice.{between}
 use Rattle.wire.specs.Bytes.{Bytes, same}
-use Rattle.wire.proofs.ChoiceLaws.{and-left, and-right, and-three, three-and, between-true, between-within, bit-small}
+use Rattle.wire.proofs.ChoiceLaws.{and-left, and-right, and-three, three-and, between-true, between-within}
 use Rattle.wire.proofs.PartsLaws.{length-part}
 use Rattle.wire.proofs.BytesLaws.{bytes-part, get-fits, same-refl, same-true}
 use Rattle.model.specs.Sizes.{nativeLimit, historySize}
-use Rattle.model.specs.Device.{Fill, idle, running, Transfer, none, table, fillData, Command, Settings, Device}
+use Rattle.model.specs.Device.{Fill, idle, running, Transfer, none, table, fillData, Device}
 use Rattle.model.specs.Key.{highestState}
 use Rattle.model.specs.Temperature.{tableHeadSize}
 use Rattle.model.specs.Fill.{runningCode}
-use Rattle.model.specs.Valid.{FillValid, TransferValid, PendingValid, pendingCount, pendingLimit, CodeValid, CommandValid, TimerValid, SettingsValid, ThermalValid, Valid}
+use Rattle.model.specs.Valid.{FillValid, TransferValid, PendingValid, pendingCount, pendingLimit, CodeValid, CommandValid, TimerValid, SettingsValid, Valid}
 use Rattle.model.proofs.SoundLaws.{Clauses, Stored, valid-clauses, clauses-valid}
 use Rattle.store.specs.Areas.{recordSize, headSize}
-use Rattle.store.specs.Record.{Stage, Contents, fillOf, transferOf, transferAt, encode, decode}
+use Rattle.store.specs.Record.{Contents, encode, decode}
 use Rattle.store.specs.Sound.{fillSound, transferSound, pendingSound, commandSound, timerSound, settingsSound, deviceSound, sound}
 use Rattle.store.proofs.RecordLaws.{ContentsFit, ContentsValid, valid-fits, length-encode, bytes-encode, decode-encode}
 

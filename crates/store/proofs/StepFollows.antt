@@ -1,16 +1,15 @@
 -- Every step on the bytes follows the machine's step: the same state, the same answer and the same buffers.
-use mathlib.Core.Path.{_≡_, refl, sym, ap, ap₂, _∙_, subst, fun-ext}
-use mathlib.Core.Bool.{Bool, true, false, _&&_}
+use mathlib.Core.Path.{_≡_, refl, sym, ap, _∙_, subst, fun-ext}
+use mathlib.Core.Bool.{true, false}
 use mathlib.Core.Logic.{_⊎_, inl, inr}
-use Prim.Native.Nat.{ℕ, zero, suc, _+_, _*_, _/_, _≤_, _<_}
+use Prim.Native.Nat.{ℕ, zero, suc, _<_}
 use native.Mathlib.Omega.{arith}
-use mathlib.Core.List.{List, [], _∷_}
+use mathlib.Core.List.{List, []}
 use lib.ListN.{length, getD, set, length-set, replicate}
 use lib.Seq.{sets, length-sets}
-use lib.Dec.{eqb, ltb}
 use borrow.Author.Tests.{eqb-true, eq-eqb, ltb-true}
-use Rattle.wire.specs.Choice.{Check, firstFailed}
-use Rattle.wire.specs.Parts.{part, zeros}
+use Rattle.wire.specs.Choice.{firstFailed}
+use Rattle.wire.specs.Parts.{zeros}
 use Rattle.wire.specs.Bytes.{Bytes}
 use Rattle.wire.proofs.ChoiceLaws.{all-pass}
 use Rattle.wire.proofs.PartsLaws.{part-same, length-zeros}
@@ -24,20 +23,19 @@ use Rattle.model.specs.Decide.{Serving, Writing, noWrite, oneSector, newFill, D
 use Rattle.model.specs.Perform.{written, volumeAfter, fillSectorAfter, replyOf}
 use Rattle.model.specs.Owner.{setLock}
 use Rattle.model.specs.Owner.{setVisible as setVisibleDevice, sample as sampleDevice}
-use Rattle.model.specs.Image.{restored}
 use Rattle.model.specs.Image.{powerOn as powerOnDevice}
-use Rattle.model.specs.Machine.{Port, request, reply, Machine, whileRunning, machine, withPort, heldBytes}
+use Rattle.model.specs.Machine.{Port, Machine, whileRunning, machine, heldBytes}
 use Rattle.model.specs.Machine.{empty as noRequest}
-use Rattle.model.specs.Step.{OwnerStep, lock, unlock, setVisible, sample, Step, take, serve, give, work, owner, save, powerOn, ownerRule, Outcome, checks, unchanged, seenDone, does, volume, served, serveDecided, worked, poweredOn, step}
+use Rattle.model.specs.Step.{OwnerStep, lock, unlock, setVisible, sample, Step, take, serve, give, work, owner, save, powerOn, ownerRule, checks, seenDone, does, served, serveDecided, worked, poweredOn, step}
 use Rattle.model.specs.Valid.{Sized, DiskValid, Valid, MachineValid, OwnerFed, Fed}
 use Rattle.model.proofs.StepLaws.{step-done, step-refused, answers-numbered}
 use Rattle.model.proofs.OwnerLaws.{interrupt-quiet}
 use Rattle.model.proofs.RequestLaws.{interrupt-kept}
 use Rattle.model.proofs.ValidRequest.{WritingValid, DecisionValid, decide-valid}
 use Rattle.model.proofs.ValidStep.{does-valid, reply-valid, serve-valid}
-use Rattle.store.specs.Areas.{recordSize, slotSize, slotPlace, fillPlace, privateSize}
+use Rattle.store.specs.Areas.{recordSize, slotPlace, fillPlace, privateSize}
 use Rattle.store.specs.Record.{Stage, empty, held, answered, Contents, encode, decode}
-use Rattle.store.specs.Store.{Store, portOf, slotBytes, fillSectorOf, stageFor, machineFrom, machineOf}
+use Rattle.store.specs.Store.{Store, portOf, slotBytes, fillSectorOf, stageFor, machineOf}
 use Rattle.store.specs.Entries.{isEmpty, isHeld, isAnswered, withStage, withDevice, withFillSector, poweredContents}
 use Rattle.store.specs.OnStore.{store, onStore}
 use Rattle.store.proofs.RecordLaws.{ContentsValid}

@@ -1,34 +1,34 @@
 -- What the machine does not hold: the bytes that a step that is done leaves as they were.
-use mathlib.Core.Path.{_≡_, refl, sym, ap, _∙_}
+use mathlib.Core.Path.{_≡_, refl, sym, _∙_}
 use mathlib.Core.Logic.{_⊎_, inl, inr}
-use Prim.Native.Nat.{ℕ, zero, suc, _+_, _*_, _≤_, _<_}
+use Prim.Native.Nat.{ℕ, _+_, _*_, _≤_, _<_}
 use native.Mathlib.Omega.{arith}
-use mathlib.Core.List.{List, [], _∷_}
+use mathlib.Core.List.{List}
 use lib.ListN.{length, getD}
 use lib.Seq.{sets}
 use borrow.Author.Tests.{eqb-true, ltb-true}
 use Rattle.wire.specs.Choice.{firstFailed}
-use Rattle.wire.specs.Parts.{part, zeros}
-use Rattle.wire.proofs.ChoiceLaws.{all-pass, pass-all}
+use Rattle.wire.specs.Parts.{zeros}
+use Rattle.wire.proofs.ChoiceLaws.{all-pass}
 use Rattle.wire.proofs.NumbersLaws.{getD-sets-before, getD-sets-after}
-use Rattle.model.specs.Sizes.{sectorSize, portCount, mailboxSize, entrySize}
+use Rattle.model.specs.Sizes.{portCount, mailboxSize}
 use Rattle.model.specs.Decide.{Serving, Writing, noWrite, oneSector, newFill, Decision, decide}
 use Rattle.model.specs.Perform.{volumeAfter, replyOf}
-use Rattle.model.specs.Step.{OwnerStep, Step, take, serve, give, work, owner, save, powerOn, Outcome}
-use Rattle.store.specs.Areas.{slotSize, slotPlace, fillPlace, privateSize}
+use Rattle.model.specs.Step.{OwnerStep, Step, take, serve, give, work, owner, save, powerOn}
+use Rattle.store.specs.Areas.{recordSize, slotSize, slotPlace, fillPlace, privateSize}
 use Rattle.store.specs.Record.{decode}
 use Rattle.store.specs.Store.{Store, slotBytes}
 use Rattle.store.specs.Entries.{withFillSector}
-use Rattle.store.specs.OnStore.{store, onStore}
+use Rattle.store.specs.OnStore.{onStore}
 use Rattle.model.proofs.ValidRequest.{decide-valid}
-use Rattle.store.proofs.EntryLaws.{storeChecks, doneStore, on-done}
+use Rattle.store.proofs.EntryLaws.{storeChecks, on-done}
 use Rattle.store.proofs.FollowLaws.{StoreValid, contents-valid, slot-sized}
 use Rattle.store.proofs.StepFollows.{answer-sized}
 use Rattle.store.proofs.AnswerLaws.{entry-answer}
 
--- "four slots of 528, then the fill sector"
-pub area-places : (p : ℕ) → (slotPlace p ≡ 528 * p) × (fillPlace ≡ 2112) × (privateSize ≡ 2624)
-area-places p = (refl, refl, refl)
+-- "four slots of 528, then the fill sector"; "The device record crosses as 1,024 bytes"
+pub area-places : (p : ℕ) → (slotPlace p ≡ 528 * p) × (fillPlace ≡ 2112) × (privateSize ≡ 2624) × (recordSize ≡ 1024)
+area-places p = (refl, refl, refl, refl)
 
 passed : (x : Step) (s : Store) → onStore x s .seen .answer ≡ 0 → firstFailed (storeChecks x s) ≡ 0
 passed x s answers = sym (entry-answer x s) ∙ answers
@@ -77,7 +77,7 @@ owner-disk x s = refl
 
 -- "private area all zeros"
 pub power-on-zeroes : (image : List ℕ) (used : ℕ) (s : Store) → onStore (powerOn image used) s .seen .answer ≡ 0
-    → onStore (powerOn image used) s .state .privateArea ≡ zeros privateSize
+    → onStore (powerOn image used) s .state .privateArea ≡ zeros 2624
 power-on-zeroes image used s answers = rw (on-done (powerOn image used) s (passed (powerOn image used) s answers))
 
 -- serve: the other slots stay, and the fill sector unless a fill begins

@@ -2,7 +2,7 @@
 -- given to be read only. An entry whose checks fail gives the number of the first and leaves all as they were.
 use mathlib.Core.Bool.{Bool, true, false}
 use Prim.Native.Nat.{ℕ, _+_, _*_, _/_}
-use mathlib.Core.List.{List, [], _∷_, _++_}
+use mathlib.Core.List.{List, [], _∷_}
 use lib.ListN.{length, set, replicate}
 use lib.Seq.{sets}
 use lib.Dec.{eqb, ltb}
@@ -11,7 +11,7 @@ use Rattle.wire.specs.Parts.{zeros}
 use Rattle.model.specs.Sizes.{sectorSize, portCount, mailboxSize, entrySize, done, badPort, badLength, badStage, badRecord, badValue}
 use Rattle.model.specs.Device.{Device}
 use Rattle.model.specs.Fill.{workCount, work}
-use Rattle.model.specs.Decide.{Serving, Writing, noWrite, oneSector, newFill, Decision, decide}
+use Rattle.model.specs.Decide.{Writing, noWrite, oneSector, newFill, Decision, decide}
 use Rattle.model.specs.Perform.{volumeAfter, replyOf}
 use Rattle.model.specs.Step.{OwnerStep, lock, unlock, setVisible, sample, goodValue, ownerRule}
 use Rattle.model.specs.Image.{Saved, savedImage, restored, powerOn}

@@ -1,14 +1,21 @@
--- A step on the bytes, assembled from the ten entries and nothing else. Lock, unlock, set V and sample are ownerEntry of that step.
+-- A step on the bytes, assembled from the ten entries and nothing else.
 use Prim.Native.Nat.{ℕ}
 use mathlib.Core.List.{List, []}
-use Rattle.model.specs.Step.{Step, take, serve, give, work, owner, save, powerOn, Seen, Outcome, answerOnly, answeredMailbox, answeredImage}
+use Rattle.model.specs.Step.{OwnerStep, lock, unlock, setVisible, sample, Step, take, serve, give, work, owner, save, powerOn, Outcome, answerOnly, answeredMailbox, answeredImage}
 use Rattle.model.specs.Disk.{Disk}
 use Rattle.store.specs.Store.{Store}
-use Rattle.store.specs.Entries.{takeBytes, serveBytes, giveBytes, workBytes, ownerEntry, saveBytes, powerOnBytes}
+use Rattle.store.specs.Entries.{takeBytes, serveBytes, giveBytes, workBytes, OwnerAfter, lockBytes, unlockBytes, setVisibleBytes, sampleBytes, saveBytes, powerOnBytes}
 
 -- "Each step gets the record, disk and private area that the last one left"
 abbrev pub store : List ℕ → List ℕ → Disk → Store
 store r a disk = record { recordArea = r; privateArea = a; disk = disk }
+
+-- the entry of an owner step on the device
+abbrev pub ownerBytes : OwnerStep → List ℕ → OwnerAfter
+ownerBytes lock r = lockBytes r
+ownerBytes unlock r = unlockBytes r
+ownerBytes (setVisible v) r = setVisibleBytes r v
+ownerBytes (sample reading) r = sampleBytes r reading
 
 unfoldable pub onStore : Step → Store → Outcome Store
 onStore (take p m) s =
@@ -27,7 +34,7 @@ onStore (work n) s =
       seen = record { answer = o .answer; count = o .count; mailbox = []; image = []; used = 0 };
     }
 onStore (owner x) s =
-    let o = ownerEntry x (s .recordArea) in
+    let o = ownerBytes x (s .recordArea) in
     record { state = store (o .recordArea) (s .privateArea) (s .disk); seen = answerOnly (o .answer) }
 onStore (save image used) s =
     let o = saveBytes (s .recordArea) image used in

@@ -4,8 +4,8 @@ use Prim.Native.Nat.{ℕ, zero, suc, _+_, _-_, _*_, _≤_, _<_}
 use native.Mathlib.Nat.{suc-add, add-suc, zero-add, add-zero, mul-zero}
 use native.Mathlib.Omega.{arith}
 use mathlib.Core.List.{List, [], _∷_, _++_, append-assoc, append-nil}
-use lib.ListN.{length, getD, set, take, drop, replicate, length-append, length-take, length-drop, length-replicate, length-set}
-use lib.Seq.{take-nil, take-at, drop-at, length-take-le, take-all, drop-set-lt, take-set-le, take-set-lt, drop-set-add, take-take, drop-drop, getD-take, getD-drop, sets, sets-eq, length-sets, drop-append-add}
+use lib.ListN.{length, getD, set, take, drop, length-append, length-take, length-drop, length-replicate, length-set}
+use lib.Seq.{take-nil, take-at, drop-at, length-take-le, take-all, drop-set-lt, take-set-le, take-set-lt, drop-set-add, take-take, drop-drop, getD-take, getD-drop, sets, sets-eq, length-sets, take-append-le, drop-append-le, drop-append-add}
 use Rattle.wire.specs.Numbers.{le, get, put}
 use Rattle.wire.specs.Parts.{part, zeros, padded, repeated}
 use Rattle.wire.proofs.NumbersLaws.{get-agree, length-le}
@@ -107,6 +107,11 @@ set-front : (xs ys : List ℕ) (i a : ℕ) → i < length xs → set (xs ++ ys) 
 set-front [] ys i a h = absurd (omega arith)
 set-front (x ∷ xs) ys zero a h = refl
 set-front (x ∷ xs) ys (suc i) a h = ap (λ (l : List ℕ). x ∷ l) (set-front xs ys i a (omega arith))
+
+-- a part of the first of two runs
+pub part-front : (xs ys : List ℕ) (i m : ℕ) → i + m ≤ length xs → part (xs ++ ys) i m ≡ part xs i m
+part-front xs ys i m h =
+    ap (take m) (drop-append-le i xs ys (omega arith)) ∙ take-append-le m (drop i xs) ys (rw (length-drop i xs) (omega arith))
 
 pub sets-front : (vs xs ys : List ℕ) (i : ℕ) → i + length vs ≤ length xs → sets (xs ++ ys) i vs ≡ sets xs i vs ++ ys
 sets-front [] xs ys i h = refl

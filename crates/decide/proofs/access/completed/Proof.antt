@@ -1,9 +1,9 @@
 -- `decide::access::completed` meets its contract.
 use mathlib.Core.Path.{refl}
 use Rattle.model.specs.Registers.{good}
-use Rattle.model.specs.Decide.{nothing, writing, sending, temperatures}
-use Rattle.decide.specs.Meaning.{asWriting}
-use Rattle.decide.proofs.DecidedLaws.{unchanged, says-decided}
+use Rattle.model.specs.Decide.{nothing, sending, temperatures}
+use Rattle.control.proofs.ChangeLaws.{unchanged}
+use Rattle.decision.proofs.DecidedLaws.{says-decided}
 use borrow.Author.Needs.{needs}
 use Rattle.decide.proofs.access.completed.Statement.{statement}
 use Rattle.decide.proofs.access.completed.Tie as tie
@@ -14,20 +14,20 @@ enum-told c = search needs
 good-requires : tie.Need-good-requires
 good-requires c κs = search needs
 
-answered-requires : tie.Need-answered-requires
-answered-requires c κs = search needs
+replied-requires : tie.Need-replied-requires
+replied-requires c κs = search needs
 
 enum-told-2 : tie.Need-enum-told-2
 enum-told-2 c = search needs
 
-sent-requires : tie.Need-sent-requires
-sent-requires c κs = search needs
+to-send-requires : tie.Need-to-send-requires
+to-send-requires c κs = search needs
 
 enum-known-t : tie.Need-enum-known-t
 enum-known-t c = search needs
 
-written-requires : tie.Need-written-requires
-written-requires c κs = search needs
+to-write-requires : tie.Need-to-write-requires
+to-write-requires c κs = search needs
 
 returns : tie.Need-returns
 returns c =
@@ -35,21 +35,21 @@ returns c =
     let at-enum-told = at-good2 .before in
     let entry = at-enum-told .before .before in
     let a = entry .args in
-    λ m. rw (at-enum-told .enum-told .given .1) (says-decided m (λ x. x) (λ x. good 0 0) (λ m. nothing) (a .d) (a .d) _ _ (c .answered .ensures) (unchanged (a .d)) (λ h. at-good2 .good2 .ensures))
+    λ m. rw (at-enum-told .enum-told .given .1) (says-decided m (λ x. x) (λ x. good 0 0) (λ m. nothing) (a .d) (a .d) _ _ (c .replied .ensures) (unchanged (a .d)) (λ h. at-good2 .good2 .ensures))
 
 returns-2 : tie.Need-returns-2
 returns-2 c =
     let at-enum-told2 = c .before in
     let entry = at-enum-told2 .before .before in
     let a = entry .args in
-    λ m. rw (at-enum-told2 .enum-told2 .given .1) (says-decided m (λ x. x) (λ x. good 0 0) (λ m. sending temperatures) (a .d) (a .d) _ _ (c .sent .ensures) (unchanged (a .d)) (λ h. refl))
+    λ m. rw (at-enum-told2 .enum-told2 .given .1) (says-decided m (λ x. x) (λ x. good 0 0) (λ m. sending temperatures) (a .d) (a .d) _ _ (c .to-send .ensures) (unchanged (a .d)) (λ h. refl))
 
 returns-3 : tie.Need-returns-3
 returns-3 c =
     let at-t = c .before .before in
     let entry = at-t .before .before in
     let a = entry .args in
-    λ m. rw (at-t .t .given .1) (says-decided m (λ x. x) (λ x. good 0 0) _ (a .d) (a .d) _ _ (c .written .ensures) (unchanged (a .d)) (λ h. refl))
+    λ m. rw (at-t .t .given .1) (says-decided m (λ x. x) (λ x. good 0 0) _ (a .d) (a .d) _ _ (c .to-write .ensures) (unchanged (a .d)) (λ h. refl))
 
 pub completed-spec : {M : Type 1} → statement M
 completed-spec =
@@ -57,11 +57,11 @@ completed-spec =
     (tie.spec
     enum-told
     good-requires
-    answered-requires
+    replied-requires
     enum-told-2
-    sent-requires
+    to-send-requires
     enum-known-t
-    written-requires
+    to-write-requires
     returns
     returns-2
     returns-3)

@@ -20,8 +20,8 @@ with-code-requires c κs = search needs
 refused-with-requires : tie.Need-refused-with-requires
 refused-with-requires c κs = search needs
 
-answered-requires : tie.Need-answered-requires
-answered-requires c κs = search needs
+replied-requires : tie.Need-replied-requires
+replied-requires c κs = search needs
 
 returns : tie.Need-returns
 returns c =
@@ -33,7 +33,7 @@ returns c =
     let at-pending-of = at-data-code .before in
     let entry = at-pending-of .before in
     let a = entry .args in
-    λ m. data-refused (a .d) (at-interrupt .interrupt .result) (at-with-code .with-code .result) (a .p) (asDirection (a .dir)) (a .count) (at-data-code .data-code .result) (asTransfer (at-pending-of .pending-of .result)) m _ (at-pending-of .pending-of .ensures) (at-data-code .data-code .ensures) (at-interrupt .interrupt .ensures) (at-with-code .with-code .ensures) (at-if1 .if1 .taken) _ (at-refused-with .refused-with .ensures) (c .answered .ensures)
+    λ m. data-refused (a .d) (at-interrupt .interrupt .result) (at-with-code .with-code .result) (a .p) (asDirection (a .dir)) (a .count) (at-data-code .data-code .result) (asTransfer (at-pending-of .pending-of .result)) m _ (at-pending-of .pending-of .ensures) (at-data-code .data-code .ensures) (at-interrupt .interrupt .ensures) (at-with-code .with-code .ensures) (at-if1 .if1 .taken) _ (at-refused-with .refused-with .ensures) (c .replied .ensures)
 
 completed-requires : tie.Need-completed-requires
 completed-requires c κs = search needs
@@ -58,7 +58,7 @@ decide-data-spec =
     interrupt-requires
     with-code-requires
     refused-with-requires
-    answered-requires
+    replied-requires
     returns
     completed-requires
     returns-2)

@@ -14,8 +14,8 @@ interrupt-requires c κs = search needs
 refused-requires : tie.Need-refused-requires
 refused-requires c κs = search needs
 
-answered-requires : tie.Need-answered-requires
-answered-requires c κs = search needs
+replied-requires : tie.Need-replied-requires
+replied-requires c κs = search needs
 
 returns : tie.Need-returns
 returns c =
@@ -25,7 +25,7 @@ returns c =
     let at-sector-error = at-interrupt .before in
     let entry = at-sector-error .before in
     let a = entry .args in
-    λ m. access-refused (a .d) (at-interrupt .interrupt .result) (asDirection (a .dir)) (a .count) (a .lba) (at-sector-error .sector-error .result) m _ (at-sector-error .sector-error .ensures) (at-interrupt .interrupt .ensures) (at-if1 .if1 .taken) _ (at-refused .refused .ensures) (c .answered .ensures)
+    λ m. access-refused (a .d) (at-interrupt .interrupt .result) (asDirection (a .dir)) (a .count) (a .lba) (at-sector-error .sector-error .result) m _ (at-sector-error .sector-error .ensures) (at-interrupt .interrupt .ensures) (at-if1 .if1 .taken) _ (at-refused .refused .ensures) (c .replied .ensures)
 
 moved-requires : tie.Need-moved-requires
 moved-requires c κs = search needs
@@ -46,7 +46,7 @@ decide-sector-spec =
     sector-error-requires
     interrupt-requires
     refused-requires
-    answered-requires
+    replied-requires
     returns
     moved-requires
     returns-2)

@@ -1,7 +1,8 @@
 -- `decide::access::moved` meets its contract.
 use mathlib.Core.Path.{refl}
 use Rattle.model.specs.Registers.{good}
-use Rattle.decide.proofs.DecidedLaws.{unchanged, says-decided}
+use Rattle.control.proofs.ChangeLaws.{unchanged}
+use Rattle.decision.proofs.DecidedLaws.{says-decided}
 use borrow.Author.Needs.{needs}
 use Rattle.decide.proofs.access.moved.Statement.{statement}
 use Rattle.decide.proofs.access.moved.Tie as tie
@@ -9,29 +10,29 @@ use Rattle.decide.proofs.access.moved.Tie as tie
 enum-told : tie.Need-enum-told
 enum-told c = search needs
 
-sent-requires : tie.Need-sent-requires
-sent-requires c κs = search needs
+to-send-requires : tie.Need-to-send-requires
+to-send-requires c κs = search needs
 
 enum-told-2 : tie.Need-enum-told-2
 enum-told-2 c = search needs
 
-written-requires : tie.Need-written-requires
-written-requires c κs = search needs
+to-write-requires : tie.Need-to-write-requires
+to-write-requires c κs = search needs
 
 returns : tie.Need-returns
 returns c =
     let at-enum-told = c .before in
     let entry = at-enum-told .before .before in
     let a = entry .args in
-    λ m. rw (at-enum-told .enum-told .given .1) (says-decided m (λ x. x) (λ x. good 0 0) _ (a .d) (a .d) _ _ (c .sent .ensures) (unchanged (a .d)) (λ h. refl))
+    λ m. rw (at-enum-told .enum-told .given .1) (says-decided m (λ x. x) (λ x. good 0 0) _ (a .d) (a .d) _ _ (c .to-send .ensures) (unchanged (a .d)) (λ h. refl))
 
 returns-2 : tie.Need-returns-2
 returns-2 c =
     let at-enum-told2 = c .before in
     let entry = at-enum-told2 .before .before in
     let a = entry .args in
-    λ m. rw (at-enum-told2 .enum-told2 .given .1) (says-decided m (λ x. x) (λ x. good 0 0) _ (a .d) (a .d) _ _ (c .written .ensures) (unchanged (a .d)) (λ h. refl))
+    λ m. rw (at-enum-told2 .enum-told2 .given .1) (says-decided m (λ x. x) (λ x. good 0 0) _ (a .d) (a .d) _ _ (c .to-write .ensures) (unchanged (a .d)) (λ h. refl))
 
 pub moved-spec : {M : Type 1} → statement M
 moved-spec =
-    tie.close (tie.spec enum-told sent-requires enum-told-2 written-requires returns returns-2)
+    tie.close (tie.spec enum-told to-send-requires enum-told-2 to-write-requires returns returns-2)

@@ -7,25 +7,25 @@ use Rattle.decide.proofs.choice.decide_status.Tie as tie
 refused-with-requires : tie.Need-refused-with-requires
 refused-with-requires c κs = search needs
 
-answered-requires : tie.Need-answered-requires
-answered-requires c κs = search needs
+replied-requires : tie.Need-replied-requires
+replied-requires c κs = search needs
 
 returns : tie.Need-returns
 returns c =
     let at-refused-with = c .before in
     let at-if1 = at-refused-with .before in
     let entry = at-if1 .before in
-    λ m. status-refused (entry .args .d) m _ (at-if1 .if1 .taken) _ (at-refused-with .refused-with .ensures) (c .answered .ensures)
+    λ m. status-refused (entry .args .d) m _ (at-if1 .if1 .taken) _ (at-refused-with .refused-with .ensures) (c .replied .ensures)
 
-sent-requires : tie.Need-sent-requires
-sent-requires c κs = search needs
+to-send-requires : tie.Need-to-send-requires
+to-send-requires c κs = search needs
 
 returns-2 : tie.Need-returns-2
 returns-2 c =
     let at-if1 = c .before in
     let entry = at-if1 .before in
-    λ m. status-sent (entry .args .d) m _ (at-if1 .if1 .left) (c .sent .ensures)
+    λ m. status-sent (entry .args .d) m _ (at-if1 .if1 .left) (c .to-send .ensures)
 
 pub decide-status-spec : {M : Type 1} → statement M
 decide-status-spec =
-    tie.close (tie.spec refused-with-requires answered-requires returns sent-requires returns-2)
+    tie.close (tie.spec refused-with-requires replied-requires returns to-send-requires returns-2)

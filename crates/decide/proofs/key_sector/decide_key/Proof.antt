@@ -31,8 +31,8 @@ with-code-requires c κs = search needs
 refused-with-requires : tie.Need-refused-with-requires
 refused-with-requires c κs = search needs
 
-answered-requires : tie.Need-answered-requires
-answered-requires c κs = search needs
+replied-requires : tie.Need-replied-requires
+replied-requires c κs = search needs
 
 returns : tie.Need-returns
 returns c =
@@ -44,7 +44,7 @@ returns c =
     let at-recorded = at-read-key .before in
     let entry = at-recorded .before .before in
     let a = entry .args in
-    key-refused (a .area .now) (a .p) (a .d) (at-recorded .recorded .result) (at-read-key .read-key .result) (at-recorded .recorded .ensures) (at-read-key .read-key .ensures) _ _ (at-with-code .with-code .result) _ _ (at-enum-told .enum-told .given .1) (at-refusal-of .refusal-of .ensures) (at-with-code .with-code .ensures) (at-refused-with .refused-with .ensures) (c .answered .ensures)
+    key-refused (a .area .now) (a .p) (a .d) (at-recorded .recorded .result) (at-read-key .read-key .result) (at-recorded .recorded .ensures) (at-read-key .read-key .ensures) _ _ (at-with-code .with-code .result) _ _ (at-enum-told .enum-told .given .1) (at-refusal-of .refusal-of .ensures) (at-with-code .with-code .ensures) (at-refused-with .refused-with .ensures) (c .replied .ensures)
 
 with-code-requires-2 : tie.Need-with-code-requires-2
 with-code-requires-2 c κs = search needs
@@ -75,7 +75,7 @@ decide-key-spec =
     refusal-of-requires
     with-code-requires
     refused-with-requires
-    answered-requires
+    replied-requires
     returns
     with-code-requires-2
     carry-out-requires

@@ -1,7 +1,7 @@
 -- `decide::key_sector::recorded` meets its contract.
 use Rattle.model.specs.Update.{withKey}
 use Rattle.model.specs.Fill.{interrupt}
-use Rattle.decide.proofs.DecidedLaws.{changed-then}
+use Rattle.control.proofs.ChangeLaws.{changed-then}
 use Rattle.decide.proofs.KeyLaws.{words-read}
 use borrow.Author.Needs.{needs}
 use Rattle.decide.proofs.key_sector.recorded.Statement.{statement}

@@ -1,7 +1,6 @@
 -- `perform::serving::serve` meets its contract.
 use native.Mathlib.Omega.{arith}
 use Rattle.store.proofs.SoundLaws.{sound-parts}
-use Rattle.record.specs.Meaning.{historyOf}
 use Rattle.request.specs.Meaning.{asRequest}
 use Rattle.control.proofs.ChangeLaws.{four-slots}
 use Rattle.perform.proofs.ServeLaws.{entered-visible, performable, serves}

@@ -1,8 +1,8 @@
 -- `runs::copy_within` meets its contract. The invariant: `s` is what it was with the first j bytes copied.
 use native.Mathlib.Numerals.{add-one}
 use Rattle.wire.proofs.NumbersLaws.{getD-sets-before}
-use mathlib.Core.Path.{_≡_, refl, sym, ap, _∙_}
-use Prim.Native.Nat.{_+_, _*_, _-_, _≤_, _<_, zero-le}
+use mathlib.Core.Path.{_≡_, refl}
+use Prim.Native.Nat.{_+_, _-_, _≤_, zero-le}
 use native.Mathlib.Omega.{arith}
 use lib.ListN.{length, length-set}
 use lib.Seq.{sets}

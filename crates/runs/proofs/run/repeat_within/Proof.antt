@@ -1,6 +1,6 @@
 -- `runs::repeat_within` meets its contract. The invariant: `s` is what it was with the four bytes written k times.
 use mathlib.Core.Path.{_≡_, refl}
-use Prim.Native.Nat.{_+_, _*_, _-_, _≤_, _<_, zero-le}
+use Prim.Native.Nat.{_+_, _*_, _-_, _≤_, zero-le}
 use native.Mathlib.Numerals.{add-one}
 use native.Mathlib.Omega.{arith}
 use lib.ListN.{length}

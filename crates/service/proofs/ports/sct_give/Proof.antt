@@ -1,6 +1,5 @@
 -- `service::ports::sct_give` meets its contract.
 use mathlib.Core.Path.{refl}
-use Prim.Native.Nat.{_*_}
 use native.Mathlib.Omega.{arith}
 use Rattle.wire.proofs.PartsLaws.{length-part, sets-whole}
 use Rattle.model.specs.Sizes.{mailboxSize}

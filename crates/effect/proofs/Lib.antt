@@ -1,0 +1,2 @@
+-- Laws of the record's history.
+pub mod EmptiedLaws

@@ -1,0 +1,54 @@
+-- `effect::writes::device_after` meets its contract.
+use mathlib.Core.Path.{refl}
+use borrow.Author.Needs.{needs}
+use Rattle.effect.proofs.writes.device_after.Statement.{statement}
+use Rattle.effect.proofs.writes.device_after.Tie as tie
+
+enum-told : tie.Need-enum-told
+enum-told c = search needs
+
+enum-told-2 : tie.Need-enum-told-2
+enum-told-2 c = search needs
+
+with-flag-cleared-requires : tie.Need-with-flag-cleared-requires
+with-flag-cleared-requires c κs = search needs
+
+enum-known-writes : tie.Need-enum-known-writes
+enum-known-writes c = search needs
+
+start-fill-requires : tie.Need-start-fill-requires
+start-fill-requires c κs = search needs
+
+enum-known-writes-2 : tie.Need-enum-known-writes-2
+enum-known-writes-2 c = search needs
+
+start-fill-requires-2 : tie.Need-start-fill-requires-2
+start-fill-requires-2 c κs = search needs
+
+returns : tie.Need-returns
+returns c = λ m. rw (c .enum-told .given .1) (record { device = λ h. refl; stages = refl; four = refl })
+
+returns-2 : tie.Need-returns-2
+returns-2 c = λ m. rw (c .before .enum-told2 .given .1) (c .with-flag-cleared .ensures)
+
+returns-3 : tie.Need-returns-3
+returns-3 c = λ m. rw (c .before .before .writes .given .1) (c .start-fill .ensures)
+
+returns-4 : tie.Need-returns-4
+returns-4 c = λ m. rw (c .before .before .writes2 .given .1) (c .start-fill2 .ensures)
+
+pub device-after-spec : {M : Type 1} → statement M
+device-after-spec =
+    tie.close
+    (tie.spec
+    enum-told
+    enum-told-2
+    with-flag-cleared-requires
+    enum-known-writes
+    start-fill-requires
+    enum-known-writes-2
+    start-fill-requires-2
+    returns
+    returns-2
+    returns-3
+    returns-4)

@@ -1,0 +1,2 @@
+-- The parts of an effect.
+pub mod Effects
