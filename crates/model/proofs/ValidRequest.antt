@@ -266,9 +266,8 @@ status-decided d v = go (d .locked)
     go true = still d d _ v (code-fits 0x0012 (omega arith)) (refl, refl) refl
     go false = record { deviceValid = v; effectValid = (tt, tt); fits = plain; sameSizes = (refl, refl); sameFill = inr refl }
 
-pub decide-valid : (s : Serving) (m : List ℕ) (d : Device) → Valid d → Sized mailboxSize m → DecisionValid d (decide s m d)
-unfolding decide
-decide-valid s m d v whole = go (requestOf m)
+pub request-valid : (q : Request) (s : Serving) (m : List ℕ) (d : Device) → Valid d → Sized mailboxSize m → DecisionValid d (decideRequest q s m d)
+request-valid q s m d v whole = go q
   where
     sector : Sized sectorSize (dataOf m)
     sector =
@@ -305,3 +304,7 @@ decide-valid s m d v whole = go (requestOf m)
           sameSizes = sizes-kept d;
           sameFill = inl (interrupt-quiet d .noFill);
         }
+
+pub decide-valid : (s : Serving) (m : List ℕ) (d : Device) → Valid d → Sized mailboxSize m → DecisionValid d (decide s m d)
+unfolding decide
+decide-valid s m d = request-valid (requestOf m) s m d

@@ -82,6 +82,16 @@ reply-size q x d disk h = reply-length q (sent x d (contentRead x disk)) (sent-s
 
 -- ---- a decision
 
+-- the record, once it is written, has its size and the table that is to be sent
+pub record-ready : (p : ℕ) (e : device.Device.Device) (h r : List ℕ) → length h ≡ historySize → r ≡ encode (withStage p answered (asContents e h))
+    → (length r ≡ recordSize) × (part r headSize sectorSize ≡ temperatureTable (asDevice e (historyOf r)))
+record-ready p e h r whole er =
+    let c = withStage p answered (asContents e h) in
+    let history : historyOf r ≡ h = ap historyOf er ∙ encoded-history c whole in (
+      ap length er ∙ encoded-size c whole,
+      ap (λ (l : List ℕ). part l headSize sectorSize) er ∙ encoded-table c whole ∙ ap (λ (l : List ℕ). temperatureTable (asDevice e l)) (sym history),
+    )
+
 -- k on record, private area and disk, with e the device after what was written and h the history that the record then has
 module _ (p : ℕ) (k : code.Decision.Decision) (e : device.Device.Device) (g a disk : List ℕ) (port : p < portCount)
     (whole : length (historyAfter (k .empties) g) ≡ historySize) (change : (m : List ℕ) → Changed (deviceAfter (asWriting (k .writes) m)) (k .device) e) where
@@ -101,16 +111,6 @@ module _ (p : ℕ) (k : code.Decision.Decision) (e : device.Device.Device) (g a 
   parts =
       written-parts w (asDevice (k .device) h) disk
       ∙ (λ i. record { device = sym (change m .device h) i; disk = record { sectors = sectorsAfter w disk } })
-
-  -- the record, once it is written, has its size and the table that is to be sent
-  pub record-ready : (r : List ℕ) → r ≡ encode (withStage p answered (asContents e h))
-      → (length r ≡ recordSize) × (part r headSize sectorSize ≡ temperatureTable (asDevice e (historyOf r)))
-  record-ready r er =
-      let c = withStage p answered (asContents e h) in
-      let history : historyOf r ≡ h = ap historyOf er ∙ encoded-history c whole in (
-        ap length er ∙ encoded-size c whole,
-        ap (λ (l : List ℕ). part l headSize sectorSize) er ∙ encoded-table c whole ∙ ap (λ (l : List ℕ). temperatureTable (asDevice e l)) (sym history),
-      )
 
   -- THE LAW of a decision performed
   pub performs : (r b newDisk : List ℕ) → r ≡ encode (withStage p answered (asContents e h)) → newDisk ≡ sectorsAfter w disk

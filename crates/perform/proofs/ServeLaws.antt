@@ -9,7 +9,7 @@ use Rattle.model.specs.Sizes.{sectorSize}
 use Rattle.model.specs.Device.{Device}
 use Rattle.model.specs.Registers.{Request, requestOf}
 use Rattle.model.specs.Decide.{Serving, Decision, decideRequest, decide}
-use Rattle.model.proofs.ValidRequest.{WritingValid, SendingValid, DecisionValid, decide-valid}
+use Rattle.model.proofs.ValidRequest.{WritingValid, SendingValid, DecisionValid, request-valid}
 use Rattle.store.specs.Record.{Contents, decode}
 use Rattle.store.specs.Store.{slotBytes}
 use Rattle.store.proofs.SoundLaws.{sound-valid}
@@ -46,21 +46,21 @@ sends-within visible sends.Temperatures disk size v = tt
 sends-within visible (sends.Sector lba) disk size v = omega (arith, size, v)
 
 module _ (r a disk : List ℕ) (p : ℕ) (d : device.Device.Device) (q : Request) (k : code.Decision.Decision) (entered : Entered r a p)
-    (says : asContents d (historyOf r) ≡ decode r) (asked : q ≡ requestOf (slotBytes p a)) (decides : Decided (slotBytes p a) (decideRequest q (record { port = p }) (slotBytes p a)) d k) where
+    (says : asContents d (historyOf r) ≡ decode r) (decides : Decided (slotBytes p a) (decideRequest q (record { port = p }) (slotBytes p a)) d k) where
   abbrev m : List ℕ
   m = slotBytes p a
 
   abbrev serving : Serving
   serving = record { port = p }
 
-  -- what is decided is the model's decision
-  decided : asDecision k m (historyOf r) ≡ decide serving m (decode r .device)
-  unfolding decide
-  decided = decides .same (historyOf r) ∙ (λ i. decideRequest (asked i) serving m (says i .device))
+  -- what is decided is the model's decision of the request q
+  decided : asDecision k m (historyOf r) ≡ decideRequest q serving m (decode r .device)
+  decided = decides .same (historyOf r) ∙ ap (λ (c : Contents). decideRequest q serving m (c .device)) says
 
+  -- whatever the request
   pub performable : Bytes r → Bytes a → length disk ≡ sectorSize * decode r .device .visible → Performable r a disk p k
   performable rb ab size =
-      let valid = decide-valid serving m (decode r .device) (sound-valid r rb (entered .soundRecord) .device) (slot-sized a p (record { size = entered .size; bytes = ab }) (entered .port)) in
+      let valid = request-valid q serving m (decode r .device) (sound-valid r rb (entered .soundRecord) .device) (slot-sized a p (record { size = entered .size; bytes = ab }) (entered .port)) in
       let dv : DecisionValid (decode r .device) (asDecision k m (historyOf r)) = subst (λ (c : Decision). DecisionValid (decode r .device) c) (sym decided) valid in
       let seen : length disk ≡ sectorSize * k .device .visible = size ∙ ap (λ (v : ℕ). sectorSize * v) (sym (dv .sameSizes .1)) in
       record {
@@ -73,12 +73,14 @@ module _ (r a disk : List ℕ) (p : ℕ) (d : device.Device.Device) (q : Request
       }
 
   -- THE LAW of a slot served
-  pub serves : (newRecord b newDisk : List ℕ) → Served p (asDecision k m (historyOf r)) (stagesOf (k .device .slots)) a disk newRecord b newDisk
+  pub serves : q ≡ requestOf m → (newRecord b newDisk : List ℕ) → Served p (asDecision k m (historyOf r)) (stagesOf (k .device .slots)) a disk newRecord b newDisk
       → Served p (decide serving m (decode r .device)) (decode r .stages) a disk newRecord b newDisk
-  serves newRecord b newDisk s =
+  unfolding decide
+  serves asked newRecord b newDisk s =
+      let same : asDecision k m (historyOf r) ≡ decideRequest (requestOf m) serving m (decode r .device) = decided ∙ ap (λ (x : Request). decideRequest x serving m (decode r .device)) asked in
       let stages : stagesOf (k .device .slots) ≡ decode r .stages = decides .stages ∙ ap (λ (c : Contents). c .stages) says in
       record {
-        recordBytes = s .recordBytes ∙ (λ i. served p (decided i) (stages i) a disk .recordArea);
-        areaBytes = s .areaBytes ∙ (λ i. served p (decided i) (stages i) a disk .privateArea);
-        diskBytes = s .diskBytes ∙ (λ i. served p (decided i) (stages i) a disk .disk);
+        recordBytes = s .recordBytes ∙ (λ i. served p (same i) (stages i) a disk .recordArea);
+        areaBytes = s .areaBytes ∙ (λ i. served p (same i) (stages i) a disk .privateArea);
+        diskBytes = s .diskBytes ∙ (λ i. served p (same i) (stages i) a disk .disk);
       }

@@ -34,7 +34,7 @@ send-requires c κs =
     let a = entry .args in
     let k = a .k in
     let w = asWriting (k .writes) (slotBytes (a .p) (a .area .now)) in
-    let ready = record-ready (a .p) k (at-device-after .device-after .result) (historyOf (a .r .now)) (a .area .now) (a .disk .now) (entry .pre .port) (history-whole (a .r .now) (entry .pre .framed) (k .empties)) (at-device-after .device-after .ensures) _ (at-finish .finish .ensures) in
+    let ready = record-ready (a .p) (at-device-after .device-after .result) _ _ (history-whole (a .r .now) (entry .pre .framed) (k .empties)) (at-finish .finish .ensures) in
     let same = ap length (at-write .write .ensures .1) ∙ disk-size w (a .disk .now) in
     ((ap length (at-write .write .ensures .0) ∙ area-size w (a .area .now) ∙ entry .pre .size, ready .0, entry .pre .port, subst (λ n. SendsWithin n (k .sends)) (sym same) (entry .pre .sendsWithin)), ready .1)
 

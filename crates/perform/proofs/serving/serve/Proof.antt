@@ -37,7 +37,7 @@ perform-requires c κs =
     let known-11 = known .before in
     let entry = known-11 .before in
     let a = entry .args in
-    performable (a .r .now) (a .area .now) (a .disk .now) (a .p) (at-decode .decode .result) (asRequest (at-request-of .request-of .result)) (at-decide .decide .result) (entry .pre .0) (at-decode .decode .ensures) (at-request-of .request-of .ensures) (at-decide .decide .ensures) (λ i. omega (arith, known-11 .slice-known .given i)) (λ i. omega (arith, known .slice-known2 .given i)) (entry .pre .1)
+    performable (a .r .now) (a .area .now) (a .disk .now) (a .p) (at-decode .decode .result) (asRequest (at-request-of .request-of .result)) (at-decide .decide .result) (entry .pre .0) (at-decode .decode .ensures) (at-decide .decide .ensures) (λ i. omega (arith, known-11 .slice-known .given i)) (λ i. omega (arith, known .slice-known2 .given i)) (entry .pre .1)
 
 same-length : tie.Need-same-length
 same-length c = search needs
@@ -56,7 +56,7 @@ returns c =
     let at-decode = at-request-of .before .before in
     let entry = at-decode .before .before .before .before .before in
     let a = entry .args in
-    serves (a .r .now) (a .area .now) (a .disk .now) (a .p) (at-decode .decode .result) (asRequest (at-request-of .request-of .result)) (at-decide .decide .result) (entry .pre .0) (at-decode .decode .ensures) (at-request-of .request-of .ensures) (at-decide .decide .ensures) _ _ _ (at-perform .perform .ensures)
+    serves (a .r .now) (a .area .now) (a .disk .now) (a .p) (at-decode .decode .result) (asRequest (at-request-of .request-of .result)) (at-decide .decide .result) (entry .pre .0) (at-decode .decode .ensures) (at-decide .decide .ensures) (at-request-of .request-of .ensures) _ _ _ (at-perform .perform .ensures)
 
 pub serve-spec : {M : Type 1} → statement M
 serve-spec =
