@@ -1,22 +1,17 @@
 -- A feature set: the device and the history after it.
-use mathlib.Core.Path.{_≡_, refl, sym, ap, _∙_}
+use mathlib.Core.Path.{_≡_, _∙_}
 use mathlib.Core.Bool.{Bool}
 use mathlib.Core.List.{List}
 use Prim.Native.Nat.{ℕ}
 use Rattle.model.specs.Registers.{good}
-use Rattle.model.specs.Key.{FeatureName, writeCache, reordering, logInterval, setFeature}
+use Rattle.model.specs.Key.{FeatureName, setFeature}
 use Rattle.model.specs.Decide.{nothing, decision, carryOut}
 use Rattle.record.specs.declared.device as device
-use Rattle.record.specs.Meaning.{asDevice}
+use Rattle.record.specs.Meaning.{asDevice, historyAfter}
 use Rattle.reply.specs.Meaning.{asRegisters}
-use Rattle.settings.specs.Features.{isInterval, historyFor, FeatureSet}
+use Rattle.settings.specs.Features.{isInterval, FeatureSet}
 use Rattle.decision.specs.declared.decision as code
-use Rattle.decision.specs.Meaning.{asEffect, historyAfter, Decided}
-
-history-for : (name : FeatureName) (h : List ℕ) → historyFor name h ≡ historyAfter (isInterval name) h
-history-for writeCache h = refl
-history-for reordering h = refl
-history-for logInterval h = refl
+use Rattle.decision.specs.Meaning.{asEffect, Decided}
 
 pub feature-decided : (m : List ℕ) (name : FeatureName) (n : ℕ) (keep : Bool) (p : ℕ) (d : device.Device.Device) (k : code.Decision.Decision)
     → FeatureSet name n keep d (k .device) → asRegisters (k .reply) ≡ good 0 0 → asEffect k m ≡ nothing → k .empties ≡ isInterval name
@@ -26,7 +21,7 @@ feature-decided m name n keep p d k set registers effect empties =
     record {
       same = λ h i.
           decision
-          (((λ j. asDevice (k .device) (historyAfter (empties j) h)) ∙ ap (asDevice (k .device)) (sym (history-for name h)) ∙ set .device h) i)
+          (((λ j. asDevice (k .device) (historyAfter (empties j) h)) ∙ set .device h) i)
           (registers i)
           (effect i);
       stages = set .stages;

@@ -4,14 +4,12 @@ use mathlib.Core.Bool.{Bool, false}
 use mathlib.Core.List.{List}
 use Prim.Native.Nat.{ℕ}
 use lib.ListN.{length}
-use Rattle.wire.specs.Choice.{if_then_else_}
 use Rattle.model.specs.Device.{Device}
 use Rattle.model.specs.Registers.{Registers, dataOf}
 use Rattle.model.specs.Key.{patternSector}
-use Rattle.model.specs.Temperature.{emptyHistory}
 use Rattle.model.specs.Decide.{Writing, noWrite, oneSector, newFill, Sending, noData, status, temperatures, diskSector, Effect, Decision, decision}
 use Rattle.record.specs.declared.device as device
-use Rattle.record.specs.Meaning.{asDevice, stagesOf}
+use Rattle.record.specs.Meaning.{asDevice, historyAfter, stagesOf}
 use Rattle.reply.specs.Meaning.{asRegisters}
 use Rattle.decision.specs.declared.decision as code
 use Rattle.decision.specs.declared.decision.Writing.the-variants as writes
@@ -31,9 +29,6 @@ asSending (sends.Sector lba) = diskSector lba
 
 abbrev pub asEffect : code.Decision.Decision → List ℕ → Effect
 asEffect k m = record { writes = asWriting (k .writes) m; sends = asSending (k .sends) }
-
-abbrev pub historyAfter : Bool → List ℕ → List ℕ
-historyAfter empties h = if empties then emptyHistory else h
 
 abbrev pub asDecision : code.Decision.Decision → List ℕ → List ℕ → Decision
 asDecision k m h = decision (asDevice (k .device) (historyAfter (k .empties) h)) (asRegisters (k .reply)) (asEffect k m)

@@ -11,9 +11,8 @@ ghost use Rattle.model.specs.Temperature.{tableHeadSize, emptyHistory};
 ghost use Rattle.store.specs.Areas.{headSize};
 ghost use Rattle.store.specs.Record.{answered, encode};
 ghost use Rattle.store.specs.Entries.{withStage};
-ghost use Rattle.record.specs.Meaning.{asContents, historyOf};
+ghost use Rattle.record.specs.Meaning.{asContents, historyOf, historyAfter};
 ghost use Rattle.writing.specs.Framed.{Framed};
-ghost use Rattle.decision.specs.Meaning.{historyAfter};
 
 // Empties the record's history, where asked.
 fn empty_if(r: &mut [u8], asked: bool)

@@ -136,25 +136,25 @@ module _ (r a disk : List ℕ) (n k : ℕ) (d e : code.Device.Device) (says : as
 -- ---- the hidden sectors
 
 -- THE LAW of the hidden sectors: work on the visible part, and the hidden bytes behind it, are work on the whole disk
-module _ (r a seen hidden : List ℕ) (n : ℕ) (whole : length a ≡ privateSize) where
+module _ (r a visible hidden : List ℕ) (n : ℕ) (whole : length a ≡ privateSize) where
   abbrev part-of : List ℕ → Volume
   part-of disk = record { device = decode r .device; disk = record { sectors = disk } }
 
   sector-whole : length (fillSectorOf a) ≡ sectorSize
   sector-whole = length-part a fillPlace sectorSize (omega (arith, whole))
 
-  pub hidden-record : workDone r a seen n .recordArea ≡ workDone r a (seen ++ hidden) n .recordArea
+  pub hidden-record : workDone r a visible n .recordArea ≡ workDone r a (visible ++ hidden) n .recordArea
   hidden-record =
       ap (λ (x : Device). encode (withDevice x (decode r)))
-      (work-device (fillSectorOf a) (part-of seen) sector-whole n ∙ sym (work-device (fillSectorOf a) (part-of (seen ++ hidden)) sector-whole n))
+      (work-device (fillSectorOf a) (part-of visible) sector-whole n ∙ sym (work-device (fillSectorOf a) (part-of (visible ++ hidden)) sector-whole n))
 
-  pub hidden-disk : Bytes r → sound r ≡ true → length seen ≡ sectorSize * decode r .device .visible
-      → workDone r a seen n .disk ++ hidden ≡ workDone r a (seen ++ hidden) n .disk
+  pub hidden-disk : Bytes r → sound r ≡ true → length visible ≡ sectorSize * decode r .device .visible
+      → workDone r a visible n .disk ++ hidden ≡ workDone r a (visible ++ hidden) n .disk
   hidden-disk b s size =
       let f = decode r .device .command .fill in
       let vs = repeated (workCount n f) (fillSectorOf a) in
       let h = sound-fit r n b s in
       let long : length vs ≡ workCount n f * sectorSize = rw (length-repeated (workCount n f) (fillSectorOf a), sector-whole) in
-      ap (λ (l : List ℕ). l ++ hidden) (work-sectors (fillSectorOf a) (part-of seen) sector-whole n)
-      ∙ sym (sets-front vs seen hidden (sectorSize * fillNext f) (omega (arith, h, size, long)))
-      ∙ sym (work-sectors (fillSectorOf a) (part-of (seen ++ hidden)) sector-whole n)
+      ap (λ (l : List ℕ). l ++ hidden) (work-sectors (fillSectorOf a) (part-of visible) sector-whole n)
+      ∙ sym (sets-front vs visible hidden (sectorSize * fillNext f) (omega (arith, h, size, long)))
+      ∙ sym (work-sectors (fillSectorOf a) (part-of (visible ++ hidden)) sector-whole n)

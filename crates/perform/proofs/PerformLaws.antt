@@ -23,11 +23,11 @@ use Rattle.store.specs.Record.{answered, encode}
 use Rattle.store.specs.Store.{slotBytes}
 use Rattle.store.specs.Entries.{withStage, withFillSector}
 use Rattle.record.specs.declared.device as device
-use Rattle.record.specs.Meaning.{asDevice, asContents, stagesOf, historyOf}
+use Rattle.record.specs.Meaning.{asDevice, asContents, stagesOf, historyOf, historyAfter}
 use Rattle.reply.specs.Meaning.{asRegisters}
 use Rattle.control.specs.Change.{Changed}
 use Rattle.decision.specs.declared.decision as code
-use Rattle.decision.specs.Meaning.{asWriting, asSending, historyAfter, asDecision}
+use Rattle.decision.specs.Meaning.{asWriting, asSending, asDecision}
 use Rattle.effect.specs.Effects.{deviceAfter, sectorsAfter}
 use Rattle.perform.specs.Served.{Served}
 use Rattle.store.proofs.RecordLaws.{encoded-size, encoded-table, encoded-history}

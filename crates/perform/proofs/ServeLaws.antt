@@ -62,14 +62,14 @@ module _ (r a disk : List ℕ) (p : ℕ) (d : device.Device.Device) (q : Request
   performable rb ab size =
       let valid = request-valid q serving m (decode r .device) (sound-valid r rb (entered .soundRecord) .device) (slot-sized a p (record { size = entered .size; bytes = ab }) (entered .port)) in
       let dv : DecisionValid (decode r .device) (asDecision k m (historyOf r)) = subst (λ (c : Decision). DecisionValid (decode r .device) c) (sym decided) valid in
-      let seen : length disk ≡ sectorSize * k .device .visible = size ∙ ap (λ (v : ℕ). sectorSize * v) (sym (dv .sameSizes .1)) in
+      let sized : length disk ≡ sectorSize * k .device .visible = size ∙ ap (λ (v : ℕ). sectorSize * v) (sym (dv .sameSizes .1)) in
       record {
         framed = sound-framed r rb (entered .soundRecord);
         size = entered .size;
         port = entered .port;
         four = decides .four ∙ four-slots d (historyOf r) r says;
-        writesWithin = writes-within (asDecision k m (historyOf r) .device) (k .writes) m disk seen (dv .effectValid .0);
-        sendsWithin = sends-within (k .device .visible) (k .sends) disk seen (dv .effectValid .1);
+        writesWithin = writes-within (asDecision k m (historyOf r) .device) (k .writes) m disk sized (dv .effectValid .0);
+        sendsWithin = sends-within (k .device .visible) (k .sends) disk sized (dv .effectValid .1);
       }
 
   -- THE LAW of a slot served

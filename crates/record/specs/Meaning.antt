@@ -1,10 +1,12 @@
 -- What the structs say: the model's device, field by field, and the record's contents. The history comes from the record's bytes.
+use mathlib.Core.Bool.{Bool}
 use mathlib.Core.List.{List, map}
 use Prim.Native.Nat.{ℕ, _+_}
+use Rattle.wire.specs.Choice.{if_then_else_}
 use Rattle.wire.specs.Parts.{part}
 use Rattle.model.specs.Sizes.{historySize}
 use Rattle.model.specs.Device.{Fill, idle, running, Transfer, none, table, fillData, Feature, Command, Settings, Thermal, Device}
-use Rattle.model.specs.Temperature.{tableHeadSize}
+use Rattle.model.specs.Temperature.{tableHeadSize, emptyHistory}
 use Rattle.model.specs.Registers.{Direction, read, write}
 use Rattle.model.specs.Key.{FeatureName, writeCache, reordering, logInterval}
 use Rattle.store.specs.Areas.{headSize}
@@ -83,6 +85,10 @@ asContents d history = record { device = asDevice d history; stages = stagesOf (
 -- the history of a record
 abbrev pub historyOf : List ℕ → List ℕ
 historyOf r = part r (headSize + tableHeadSize) historySize
+
+-- .. and after what empties it or leaves it: "Any set of feature 3 empties the temperature history."
+abbrev pub historyAfter : Bool → List ℕ → List ℕ
+historyAfter empties h = if empties then emptyHistory else h
 
 -- ---- what requests and keys name
 

@@ -24,7 +24,7 @@ use Rattle.record.specs.Meaning.{asDevice, asContents, historyOf}
 use Rattle.writing.specs.Framed.{Framed}
 use Rattle.writing.proofs.FramedLaws.{logged-framed}
 use Rattle.writing.proofs.HistoryLaws.{history-logged}
-use Rattle.sampling.specs.Sampled.{historyAfter, Sampled, SampledDevice, loggedRecord}
+use Rattle.sampling.specs.Sampled.{loggedHistory, Sampled, SampledDevice, loggedRecord}
 
 abbrev withThermalOf : code.Device.Device → code.Thermal.Thermal → code.Device.Device
 withThermalOf d t =
@@ -79,7 +79,7 @@ module _ (t : code.Thermal.Thermal) (interval reading : ℕ) (r : List ℕ) wher
       go true = f
       go false = logged-framed r (nextIndex (t .index)) reading f
 
-  pub log-history : t .index < historySize → historyOf (loggedRecord t interval reading r) ≡ historyAfter t interval reading (historyOf r)
+  pub log-history : t .index < historySize → historyOf (loggedRecord t interval reading r) ≡ loggedHistory t interval reading (historyOf r)
   log-history h = go later
     where
       go : (b : Bool) → historyOf (if b then r else set r (headSize + tableHeadSize + nextIndex (t .index)) reading) ≡ (if b then historyOf r else set (historyOf r) (nextIndex (t .index)) reading)

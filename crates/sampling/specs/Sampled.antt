@@ -16,17 +16,17 @@ abbrev pub shifted : ℕ → ℕ
 shifted b = if ltb b 128 then b + 128 else b - 128
 
 -- the history after a sample: the sample stands at the next place, where it is logged
-abbrev pub historyAfter : code.Thermal.Thermal → ℕ → ℕ → List ℕ → List ℕ
-historyAfter t interval sample h = if ltb (suc (t .minutes)) interval then h else set h (nextIndex (t .index)) sample
+abbrev pub loggedHistory : code.Thermal.Thermal → ℕ → ℕ → List ℕ → List ℕ
+loggedHistory t interval sample h = if ltb (suc (t .minutes)) interval then h else set h (nextIndex (t .index)) sample
 
 -- r says t after a sample
 pub record Sampled (t : code.Thermal.Thermal) (interval sample : ℕ) (r : code.Thermal.Thermal) : Type 0 where
-  pub thermal : (h : List ℕ) → asThermal r (historyAfter t interval sample h) ≡ sampled interval sample (asThermal t h)
+  pub thermal : (h : List ℕ) → asThermal r (loggedHistory t interval sample h) ≡ sampled interval sample (asThermal t h)
 
 -- e says d after a sample, with the history that is then in the record
 pub record SampledDevice (reading : ℕ) (d e : code.Device.Device) : Type 0 where
   pub device :
-      (h : List ℕ) → asDevice e (historyAfter (d .thermal) (d .settings .interval .state) reading h) ≡ sample reading (asDevice d h)
+      (h : List ℕ) → asDevice e (loggedHistory (d .thermal) (d .settings .interval .state) reading h) ≡ sample reading (asDevice d h)
   pub stages : stagesOf (e .slots) ≡ stagesOf (d .slots)
 
 -- the record with a sample in its history, where it is logged

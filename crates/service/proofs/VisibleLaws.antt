@@ -24,14 +24,14 @@ use Rattle.fill.proofs.StepsLaws.{hidden-record, hidden-disk}
 use Rattle.checks.proofs.CheckLaws.{DiskPassed, visible-native}
 
 -- what is known where the visible part of a disk, up to e, is handed on
-pub record Seen (r a disk : List ℕ) (e : ℕ) : Type 0 where
+pub record VisiblePart (r a disk : List ℕ) (e : ℕ) : Type 0 where
   pub bytes : Bytes r
   pub passed : DiskPassed r a disk
   pub within : e ≤ length disk
   pub size : length (take e disk) ≡ sectorSize * decode r .device .visible
 
-pub seen-part : (r a disk : List ℕ) (e : ℕ) → Bytes r → DiskPassed r a disk → e ≡ sectorSize * decode r .device .visible → Seen r a disk e
-seen-part r a disk e b ok end =
+pub visible-part : (r a disk : List ℕ) (e : ℕ) → Bytes r → DiskPassed r a disk → e ≡ sectorSize * decode r .device .visible → VisiblePart r a disk e
+visible-part r a disk e b ok end =
     let h = visible-native r b (ok .isSound) in
     let size = ok .diskSized in
     let within : e ≤ length disk = omega (arith, h, end, size) in
@@ -39,7 +39,7 @@ seen-part r a disk e b ok end =
 
 -- ---- THE LAWS of work
 
-module _ (r a disk : List ℕ) (e n : ℕ) (s : Seen r a disk e) where
+module _ (r a disk : List ℕ) (e n : ℕ) (s : VisiblePart r a disk e) where
   pub work-record : (b : List ℕ) → b ≡ workDone r a (take e disk) n .recordArea → b ≡ workDone r a disk n .recordArea
   work-record b h =
       h
@@ -55,43 +55,43 @@ module _ (r a disk : List ℕ) (e n : ℕ) (s : Seen r a disk e) where
 -- ---- what is written lies on the visible disk
 
 -- device and disk after a write on the visible part, and after the same write on the whole disk
-record SeenPart (seen hidden : List ℕ) (v whole : Volume) : Type 0 where
+record WithHidden (visible hidden : List ℕ) (v whole : Volume) : Type 0 where
   device : v .device ≡ whole .device
   disk : v .disk .sectors ++ hidden ≡ whole .disk .sectors
-  size : length (v .disk .sectors) ≡ length seen
+  size : length (v .disk .sectors) ≡ length visible
 
-module _ (seen hidden : List ℕ) (d : Device) (size : length seen ≡ sectorSize * d .visible) where
+module _ (visible hidden : List ℕ) (d : Device) (size : length visible ≡ sectorSize * d .visible) where
   abbrev on : List ℕ → Volume
   on sectors = record { device = d; disk = record { sectors = sectors } }
 
-  written-seen : (w : Writing) → WritingValid d w → SeenPart seen hidden (written w (on seen)) (written w (on (seen ++ hidden)))
+  written-visible : (w : Writing) → WritingValid d w → WithHidden visible hidden (written w (on visible)) (written w (on (visible ++ hidden)))
   unfolding writeSector
-  written-seen noWrite k = record { device = refl; disk = refl; size = refl }
-  written-seen (oneSector lba sector) k =
+  written-visible noWrite k = record { device = refl; disk = refl; size = refl }
+  written-visible (oneSector lba sector) k =
       record {
         device = refl;
-        disk = sym (sets-front sector seen hidden (sectorSize * lba) (omega (arith, k .0, k .1 .size, size)));
-        size = length-sets seen (sectorSize * lba) sector;
+        disk = sym (sets-front sector visible hidden (sectorSize * lba) (omega (arith, k .0, k .1 .size, size)));
+        size = length-sets visible (sectorSize * lba) sector;
       }
-  written-seen (newFill first end sector) k = record { device = refl; disk = refl; size = refl }
+  written-visible (newFill first end sector) k = record { device = refl; disk = refl; size = refl }
 
   -- the sector that is read, after that
-  content-seen : (x : Sending) (v whole : Volume) → SendingValid (d .visible) x → SeenPart seen hidden v whole → contentRead x (v .disk) ≡ contentRead x (whole .disk)
-  content-seen noData v whole k s = refl
-  content-seen status v whole k s = refl
-  content-seen temperatures v whole k s = refl
-  content-seen (diskSector lba) v whole k s =
+  content-visible : (x : Sending) (v whole : Volume) → SendingValid (d .visible) x → WithHidden visible hidden v whole → contentRead x (v .disk) ≡ contentRead x (whole .disk)
+  content-visible noData v whole k s = refl
+  content-visible status v whole k s = refl
+  content-visible temperatures v whole k s = refl
+  content-visible (diskSector lba) v whole k s =
       sym (part-front (v .disk .sectors) hidden (sectorSize * lba) sectorSize (omega (arith, k, size, s .size)))
       ∙ ap (λ (l : List ℕ). part l (sectorSize * lba) sectorSize) (s .disk)
 
 -- ---- THE LAWS of serve
 
-module _ (r : List ℕ) (p : ℕ) (a disk : List ℕ) (e : ℕ) (s : Seen r a disk e) where
+module _ (r : List ℕ) (p : ℕ) (a disk : List ℕ) (e : ℕ) (s : VisiblePart r a disk e) where
   abbrev decided : Decision
   decided = decide (record { port = p }) (slotBytes p a) (decode r .device)
 
-  abbrev seen : List ℕ
-  seen = take e disk
+  abbrev visible : List ℕ
+  visible = take e disk
 
   abbrev hidden : List ℕ
   hidden = drop e disk
@@ -102,32 +102,32 @@ module _ (r : List ℕ) (p : ℕ) (a disk : List ℕ) (e : ℕ) (s : Seen r a di
         decide-valid (record { port = p }) (slotBytes p a) (decode r .device) (sound-valid r (s .bytes) (s .passed .isSound) .device)
         (slot-sized a p (record { size = s .passed .areaSized; bytes = ab }) port)
 
-    same-size : length seen ≡ sectorSize * decided .device .visible
+    same-size : length visible ≡ sectorSize * decided .device .visible
     same-size = s .size ∙ ap (λ (v : ℕ). sectorSize * v) (sym (valid .sameSizes .1))
 
-    after-seen : SeenPart seen hidden (volumeAfter decided (record { sectors = seen })) (volumeAfter decided (record { sectors = seen ++ hidden }))
-    after-seen = written-seen seen hidden (decided .device) same-size (decided .effect .writes) (valid .effectValid .0)
+    after-visible : WithHidden visible hidden (volumeAfter decided (record { sectors = visible })) (volumeAfter decided (record { sectors = visible ++ hidden }))
+    after-visible = written-visible visible hidden (decided .device) same-size (decided .effect .writes) (valid .effectValid .0)
 
     -- the whole disk is its two parts
-    joined : {A : Type 0} (f : List ℕ → A) → f (seen ++ hidden) ≡ f disk
+    joined : {A : Type 0} (f : List ℕ → A) → f (visible ++ hidden) ≡ f disk
     joined f = ap f (take-append-drop e disk)
 
-    pub serve-record : (b : List ℕ) → b ≡ serveDone r p a seen .recordArea → b ≡ serveDone r p a disk .recordArea
+    pub serve-record : (b : List ℕ) → b ≡ serveDone r p a visible .recordArea → b ≡ serveDone r p a disk .recordArea
     serve-record b h =
         h
-        ∙ ap (λ (x : Device). encode (withStage p answered (withDevice x (decode r)))) (after-seen .device)
+        ∙ ap (λ (x : Device). encode (withStage p answered (withDevice x (decode r)))) (after-visible .device)
         ∙ joined (λ l. serveDone r p a l .recordArea)
 
-    pub serve-area : (b : List ℕ) → b ≡ serveDone r p a seen .privateArea → b ≡ serveDone r p a disk .privateArea
+    pub serve-area : (b : List ℕ) → b ≡ serveDone r p a visible .privateArea → b ≡ serveDone r p a disk .privateArea
     serve-area b h =
         let x = decided .effect .sends in
         h
         ∙ (λ i.
         withFillSector (decided .effect .writes)
         (sets a (slotPlace p)
-        (replyWith (decided .registers) x (after-seen .device i)
-        (content-seen seen hidden (decided .device) same-size x (volumeAfter decided (record { sectors = seen })) (volumeAfter decided (record { sectors = seen ++ hidden })) (valid .effectValid .1) after-seen i))))
+        (replyWith (decided .registers) x (after-visible .device i)
+        (content-visible visible hidden (decided .device) same-size x (volumeAfter decided (record { sectors = visible })) (volumeAfter decided (record { sectors = visible ++ hidden })) (valid .effectValid .1) after-visible i))))
         ∙ joined (λ l. serveDone r p a l .privateArea)
 
-    pub serve-disk : (b : List ℕ) → b ≡ serveDone r p a seen .disk → b ++ drop e disk ≡ serveDone r p a disk .disk
-    serve-disk b h = ap (λ (l : List ℕ). l ++ drop e disk) h ∙ after-seen .disk ∙ joined (λ l. serveDone r p a l .disk)
+    pub serve-disk : (b : List ℕ) → b ≡ serveDone r p a visible .disk → b ++ drop e disk ≡ serveDone r p a disk .disk
+    serve-disk b h = ap (λ (l : List ℕ). l ++ drop e disk) h ∙ after-visible .disk ∙ joined (λ l. serveDone r p a l .disk)

@@ -10,7 +10,8 @@ use Rattle.model.specs.Temperature.{emptyHistory, historyEmptied}
 use Rattle.model.specs.Registers.{Direction, read, write}
 use Rattle.model.specs.Key.{FeatureName, writeCache, reordering, logInterval}
 use Rattle.model.specs.Decide.{withTimer, withFeature, afterFeature}
-use Rattle.settings.specs.Features.{isRead, isCache, isInterval, historyFor}
+use Rattle.record.specs.Meaning.{historyAfter}
+use Rattle.settings.specs.Features.{isRead, isCache, isInterval}
 
 pub read-timer : (dir : Direction) (n : ℕ) (s : Settings) → isRead dir ≡ true → withTimer read n s ≡ withTimer dir n s
 read-timer read n s e = refl
@@ -38,13 +39,13 @@ reordering-set logInterval f s e g = absurd (let z : _≡_ {A = ℕ} 0 1 = cc in
 
 -- ---- what a set of a feature does beside: nothing, or the history is emptied
 
-pub other-kept : (name : FeatureName) (d : Device) (h : List ℕ) → isInterval name ≡ false → (historyFor name h ≡ h) × (afterFeature name d ≡ d)
+pub other-kept : (name : FeatureName) (d : Device) (h : List ℕ) → isInterval name ≡ false → (historyAfter (isInterval name) h ≡ h) × (afterFeature name d ≡ d)
 other-kept writeCache d h e = (refl, refl)
 other-kept reordering d h e = (refl, refl)
 other-kept logInterval d h e = absurd (let z : _≡_ {A = ℕ} 0 1 = cc in omega arith)
 
 pub interval-emptied : (name : FeatureName) (d : Device) (h : List ℕ) → isInterval name ≡ true
-    → (historyFor name h ≡ emptyHistory) × (afterFeature name d ≡ withThermal (historyEmptied (d .thermal)) d)
+    → (historyAfter (isInterval name) h ≡ emptyHistory) × (afterFeature name d ≡ withThermal (historyEmptied (d .thermal)) d)
 interval-emptied writeCache d h e = absurd (let z : _≡_ {A = ℕ} 0 1 = cc in omega arith)
 interval-emptied reordering d h e = absurd (let z : _≡_ {A = ℕ} 0 1 = cc in omega arith)
 interval-emptied logInterval d h e = (refl, refl)

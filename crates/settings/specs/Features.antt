@@ -8,8 +8,7 @@ use Rattle.model.specs.Registers.{Direction, read, write}
 use Rattle.model.specs.Key.{FeatureName, writeCache, reordering, logInterval}
 use Rattle.model.specs.Update.{withSettings}
 use Rattle.model.specs.Decide.{withFeature, afterFeature}
-use Rattle.model.specs.Temperature.{emptyHistory}
-use Rattle.record.specs.Meaning.{asDevice, stagesOf}
+use Rattle.record.specs.Meaning.{historyAfter, asDevice, stagesOf}
 use Rattle.record.specs.declared.device as code
 
 abbrev pub isRead : Direction → Bool
@@ -26,17 +25,11 @@ isInterval writeCache = false
 isInterval reordering = false
 isInterval logInterval = true
 
--- "Any set of feature 3 empties the temperature history."
-abbrev pub historyFor : FeatureName → List ℕ → List ℕ
-historyFor writeCache h = h
-historyFor reordering h = h
-historyFor logInterval h = emptyHistory
-
 -- r says d with a feature set, with the history that is then in the record
 pub record FeatureSet (name : FeatureName) (state : ℕ) (persistent : Bool) (d r : code.Device.Device) : Type 0 where
   pub device :
       (h : List ℕ)
-      → asDevice r (historyFor name h)
+      → asDevice r (historyAfter (isInterval name) h)
       ≡ afterFeature name (withSettings (withFeature name (record { state = state; persistent = persistent }) (asDevice d h .settings)) (asDevice d h))
   pub stages : stagesOf (r .slots) ≡ stagesOf (d .slots)
   pub four : length (r .slots) ≡ length (d .slots)

@@ -3,8 +3,7 @@ use mathlib.Core.Path.{_∙_}
 use lib.ListN.{length-map}
 use Rattle.store.specs.Record.{answered}
 use Rattle.store.proofs.StageLaws.{stage-stored}
-use Rattle.record.specs.Meaning.{asContents, historyOf}
-use Rattle.decision.specs.Meaning.{historyAfter}
+use Rattle.record.specs.Meaning.{asContents, historyOf, historyAfter}
 use Rattle.effect.proofs.EmptiedLaws.{emptied-ready, emptied-history}
 use borrow.Author.Needs.{needs}
 use Rattle.effect.proofs.answered.finish.Statement.{statement}

@@ -25,7 +25,10 @@ write-sectors-requires c κs =
     let at-decode = at-count-of .before .before in
     let known = at-decode .before .before .before .before in
     let entry = known .before in
-    (entry .pre .1, rw (c .next-of .ensures, at-count-of .count-of .ensures) (work-fits (entry .args .r .now) (entry .args .area .now) (entry .args .disk .now) _ _ (at-decode .decode .result) (at-decode .decode .result) (at-decode .decode .ensures) (at-count-of .count-of .ensures) (λ i. omega (arith, known .slice-known .given i)) (entry .pre .0) (entry .pre .2)))
+    let next = c .next-of .ensures in
+    let count = at-count-of .count-of .ensures in
+    let fits = work-fits (entry .args .r .now) (entry .args .area .now) (entry .args .disk .now) _ _ (at-decode .decode .result) (at-decode .decode .result) (at-decode .decode .ensures) (at-count-of .count-of .ensures) (λ i. omega (arith, known .slice-known .given i)) (entry .pre .0) (entry .pre .2) in
+    (entry .pre .1, omega (arith, next, count, fits))
 
 moved-on-requires : tie.Need-moved-on-requires
 moved-on-requires c κs = rw (c .before .before .before .before .before .count-of .ensures) (count-left _ _)

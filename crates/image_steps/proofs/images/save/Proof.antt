@@ -1,5 +1,6 @@
 -- `image_steps::save` meets its contract.
 use mathlib.Core.Path.{refl}
+use native.Mathlib.Omega.{arith}
 use Rattle.image_steps.proofs.ImageStepLaws.{save-passed, save-refused, save-done}
 use borrow.Author.Needs.{needs}
 use Rattle.image_steps.proofs.images.save.Statement.{statement}
@@ -23,7 +24,9 @@ put-entry-requires c κs =
     let at-save-refusal = at-if1 .before in
     let entry = at-save-refusal .before .before .before .before in
     let ok = save-passed (entry .args .device .now) (entry .args .image .now) (entry .args .used) (at-save-refusal .save-refusal .ensures) (at-if1 .if1 .left) in
-    (ok .isSound, (ok .room, ok .number))
+    let room = ok .room in
+    let number = ok .number in
+    (ok .isSound, (omega (arith, room), omega (arith, number)))
 
 same-length-2 : tie.Need-same-length-2
 same-length-2 c = search needs

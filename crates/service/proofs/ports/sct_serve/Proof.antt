@@ -7,7 +7,7 @@ use Rattle.wire.specs.Bytes.{Bytes}
 use Rattle.model.specs.Sizes.{portCount}
 use Rattle.checks.proofs.CheckLaws.{DiskPassed, serve-passed}
 use Rattle.service.proofs.StepLaws.{serve-refused, serve-done}
-use Rattle.service.proofs.VisibleLaws.{Seen, seen-part, serve-record, serve-area, serve-disk}
+use Rattle.service.proofs.VisibleLaws.{VisiblePart, visible-part, serve-record, serve-area, serve-disk}
 use borrow.Author.Needs.{needs}
 use Rattle.service.proofs.ports.sct_serve.Statement.{statement}
 use Rattle.service.proofs.ports.sct_serve.Tie as tie
@@ -19,12 +19,12 @@ passed c =
     serve-passed (a .device .now) (a .port) (a .area .now) (a .disk .now) (at-serve-refusal .serve-refusal .ensures (a .area .now) (a .disk .now) refl refl) (c .if1 .left)
 
 -- the visible part of the disk
-seen : (c : tie.After-visible-len) → let a = c .before .before .before .before .before .before .before .before .args in Seen (a .device .now) (a .area .now) (a .disk .now) (c .visible-len .result)
-seen c =
+visible-of : (c : tie.After-visible-len) → let a = c .before .before .before .before .before .before .before .before .args in VisiblePart (a .device .now) (a .area .now) (a .disk .now) (c .visible-len .result)
+visible-of c =
     let at-if1 = c .before .before in
     let known = at-if1 .before .before .before .before .before in
     let a = known .before .args in
-    seen-part (a .device .now) (a .area .now) (a .disk .now) (c .visible-len .result) (λ i. omega (arith, known .slice-known .given i)) (passed at-if1 .0) (c .visible-len .ensures)
+    visible-part (a .device .now) (a .area .now) (a .disk .now) (c .visible-len .result) (λ i. omega (arith, known .slice-known .given i)) (passed at-if1 .0) (c .visible-len .ensures)
 
 serve-refusal-requires : tie.Need-serve-refusal-requires
 serve-refusal-requires c κs = search needs
@@ -43,15 +43,15 @@ visible-len-requires : tie.Need-visible-len-requires
 visible-len-requires c κs = passed (c .before) .0 .isSound
 
 slice-relend-prefix-serve : tie.Need-slice-relend-prefix-serve
-slice-relend-prefix-serve c = let h = seen (c .before .before) .within in omega (arith, h)
+slice-relend-prefix-serve c = let h = visible-of (c .before .before) .within in omega (arith, h)
 
 slice-aggregate-serve : tie.Need-slice-aggregate-serve
-slice-aggregate-serve c = let h = seen (c .before .before .before) .within in rw length-take (omega (arith, h))
+slice-aggregate-serve c = let h = visible-of (c .before .before .before) .within in rw length-take (omega (arith, h))
 
 serve-requires : tie.Need-serve-requires
 serve-requires c κs =
     let at-visible-len = c .before .before .before in
-    let s = seen at-visible-len in
+    let s = visible-of at-visible-len in
     (record { soundRecord = s .passed .isSound; size = s .passed .areaSized; port = passed (at-visible-len .before .before) .1 }, s .size)
 
 same-length-2 : tie.Need-same-length-2
@@ -73,7 +73,7 @@ returns-2 c =
     let entry = area-known .before .before in
     let a = entry .args in
     let e = at-visible-len .visible-len .result in
-    let s = seen at-visible-len in
+    let s = visible-of at-visible-len in
     let after = at-serve .serve .ensures in
     let area-bytes : Bytes (a .area .now) = λ i. omega (arith, area-known .slice-known2 .given i) in
     let port = passed at-if1 .1 in

@@ -4,7 +4,7 @@ use native.Mathlib.Omega.{arith}
 use lib.ListN.{length-take}
 use Rattle.checks.proofs.CheckLaws.{DiskPassed, work-passed}
 use Rattle.service.proofs.StepLaws.{work-refused, work-done}
-use Rattle.service.proofs.VisibleLaws.{Seen, seen-part, work-record, work-disk}
+use Rattle.service.proofs.VisibleLaws.{VisiblePart, visible-part, work-record, work-disk}
 use Rattle.service.specs.Result.{workResult}
 use borrow.Author.Needs.{needs}
 use Rattle.service.proofs.works.sct_work.Statement.{statement}
@@ -17,12 +17,12 @@ passed c =
     work-passed (a .device .now) (a .area .now) (a .disk .now) (at-work-refusal .work-refusal .ensures (a .area .now) (a .disk .now) refl refl) (c .if1 .left)
 
 -- the visible part of the disk
-seen : (c : tie.After-visible-len) → let a = c .before .before .before .before .before .before .before .before .args in Seen (a .device .now) (a .area .now) (a .disk .now) (c .visible-len .result)
-seen c =
+visible-of : (c : tie.After-visible-len) → let a = c .before .before .before .before .before .before .before .before .args in VisiblePart (a .device .now) (a .area .now) (a .disk .now) (c .visible-len .result)
+visible-of c =
     let at-if1 = c .before .before in
     let known = at-if1 .before .before .before .before .before in
     let a = known .before .args in
-    seen-part (a .device .now) (a .area .now) (a .disk .now) (c .visible-len .result) (λ i. omega (arith, known .slice-known .given i)) (passed at-if1) (c .visible-len .ensures)
+    visible-part (a .device .now) (a .area .now) (a .disk .now) (c .visible-len .result) (λ i. omega (arith, known .slice-known .given i)) (passed at-if1) (c .visible-len .ensures)
 
 work-refusal-requires : tie.Need-work-refusal-requires
 work-refusal-requires c κs = search needs
@@ -45,13 +45,13 @@ visible-len-requires : tie.Need-visible-len-requires
 visible-len-requires c κs = passed (c .before) .isSound
 
 slice-relend-prefix-work : tie.Need-slice-relend-prefix-work
-slice-relend-prefix-work c = let h = seen (c .before) .within in omega (arith, h)
+slice-relend-prefix-work c = let h = visible-of (c .before) .within in omega (arith, h)
 
 slice-aggregate-work : tie.Need-slice-aggregate-work
-slice-aggregate-work c = let h = seen (c .before .before) .within in rw length-take (omega (arith, h))
+slice-aggregate-work c = let h = visible-of (c .before .before) .within in rw length-take (omega (arith, h))
 
 work-requires : tie.Need-work-requires
-work-requires c κs = let s = seen (c .before .before) in (s .passed .isSound, s .passed .areaSized, s .size)
+work-requires c κs = let s = visible-of (c .before .before) in (s .passed .isSound, s .passed .areaSized, s .size)
 
 result-of-requires-2 : tie.Need-result-of-requires-2
 result-of-requires-2 c κs = search needs
@@ -71,7 +71,7 @@ returns-2 c =
     let entry = at-work-refusal .before .before .before .before .before in
     let a = entry .args in
     let e = at-visible-len .visible-len .result in
-    let s = seen at-visible-len in
+    let s = visible-of at-visible-len in
     rw (work-done (a .device .now) (a .area .now) (a .disk .now) (a .n) (at-work-refusal .work-refusal .result) (at-work-refusal .work-refusal .ensures (a .area .now) (a .disk .now) refl refl) (at-if1 .if1 .left)) (
       c .result-of2 .ensures ∙ ap (workResult 0) (at-work .work .ensures .0),
       (
