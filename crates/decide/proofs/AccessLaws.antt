@@ -14,11 +14,11 @@ use Rattle.model.specs.Fill.{interrupt}
 use Rattle.model.specs.Decide.{nothing, status, sending, Decision, decision, decideStatus, dataChecks, transferEffect, decideData, sectorChecks, sectorEffect, decideSector, pendingFor}
 use Rattle.model.proofs.RequestLaws.{interrupt-kept}
 use Rattle.record.specs.declared.device as device
-use Rattle.record.specs.Meaning.{asTransfer, asDevice, pendingOf}
-use Rattle.control.specs.Change.{Changed}
+use Rattle.record.specs.DeviceMeaning.{asTransfer, asDevice, pendingOf}
+use Rattle.device_update.specs.Change.{Changed}
 use Rattle.decision.specs.declared.decision as code
-use Rattle.decision.specs.Meaning.{Says, Decided}
-use Rattle.control.proofs.ChangeLaws.{unchanged, changed-then}
+use Rattle.decision.specs.DecisionMeaning.{Says, Decided}
+use Rattle.device_update.proofs.ChangeLaws.{unchanged, changed-then}
 use Rattle.decision.proofs.DecidedLaws.{says-decided, decided-as, decided-then}
 
 -- the transfer of one slot

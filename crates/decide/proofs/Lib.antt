@@ -1,3 +1,3 @@
 -- Laws of a request decided: a key (KeyLaws), a transfer, an access and a status read (AccessLaws).
-pub mod KeyLaws
+pub mod DecideKey
 pub mod AccessLaws

@@ -17,8 +17,8 @@ ghost use Rattle.model.specs.Device.{none};
 ghost use Rattle.model.specs.Registers.{dataOf, good};
 ghost use Rattle.model.specs.Fill.{interrupt};
 ghost use Rattle.model.specs.Decide.{decision, transferEffect, sectorEffect, pendingFor, decideData, decideSector};
-ghost use Rattle.record.specs.Meaning.{asTransfer, pendingOf, asDirection};
-ghost use Rattle.decision.specs.Meaning.{Decided};
+ghost use Rattle.record.specs.DeviceMeaning.{asTransfer, pendingOf, asDirection};
+ghost use Rattle.decision.specs.DecisionMeaning.{Decided};
 
 // What the port p has pending.
 fn pending_of(d: Device, p: usize) -> Transfer
@@ -48,8 +48,8 @@ pub fn decide_data(d: Device, p: usize, dir: Direction, count: u16) -> Decision
 {
     let t = pending_of(d, p);
     let code = request::data_code(d.locked, dir, count, t);
-    let stopped = control::interrupt(d);
-    let e = control::with_code(stopped, code);
+    let stopped = device_update::interrupt(d);
+    let e = device_update::with_code(stopped, code);
     if code != 0 {
         return replied(e, reply::refused_with(code));
     }
@@ -72,7 +72,7 @@ pub fn decide_sector(d: Device, dir: Direction, count: u16, lba: u64) -> Decisio
     ensures { λ k. ⌜ ((m : List ℕ) → Decided m (λ x. decideSector (asDirection dir) count lba (dataOf m) (interrupt x)) d k) ⌝ }
 {
     let error = request::sector_error(d.locked, d.visible, count, lba);
-    let e = control::interrupt(d);
+    let e = device_update::interrupt(d);
     if error != 0 {
         return replied(e, reply::refused(error));
     }

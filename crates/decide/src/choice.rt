@@ -6,6 +6,8 @@ use decision::Decision;
 use decision::Sending;
 use decision::replied;
 use decision::to_send;
+use layout::ata;
+use layout::sct;
 use record::Device;
 use request::Request;
 ghost use mathlib.Core.Path.{_≡_};
@@ -18,15 +20,15 @@ ghost use Rattle.model.specs.Fill.{interrupt};
 ghost use Rattle.model.specs.Decide.{decision, nothing, decideStatus, decideRequest};
 ghost use Rattle.store.specs.Areas.{privateSize};
 ghost use Rattle.store.specs.Store.{slotBytes};
-ghost use Rattle.request.specs.Meaning.{asRequest};
-ghost use Rattle.decision.specs.Meaning.{Decided};
+ghost use Rattle.request.specs.RequestMeaning.{asRequest};
+ghost use Rattle.decision.specs.DecisionMeaning.{Decided};
 
 // "A refused status read under the lock answers 0012h and stores nothing."
 fn decide_status(d: Device) -> Decision
     ensures { λ k. ⌜ ((m : List ℕ) → Decided m decideStatus d k) ⌝ }
 {
     if d.locked {
-        return replied(d, reply::refused_with(0x0012));
+        return replied(d, reply::refused_with(sct::LOCKED));
     }
     to_send(d, Sending::Status)
 }
@@ -36,7 +38,10 @@ fn decide_other(d: Device) -> Decision
     requires { ⌜ length (d .slots) ≡ portCount ⌝ }
     ensures { λ k. ⌜ ((m : List ℕ) → Decided m (λ x. decision (interrupt x) (refused 0x04) nothing) d k) ⌝ }
 {
-    replied(control::interrupt(d), reply::refused(0x04))
+    replied(
+        device_update::interrupt(d),
+        reply::refused(ata::ERROR_ABORTED),
+    )
 }
 
 // The request q that slot p of the private area holds, on the device d.

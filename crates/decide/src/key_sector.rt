@@ -1,10 +1,11 @@
 // The key sector, decided.
 use decision::Decision;
 use decision::replied;
-use key::KeyRead;
+use key::Verdict;
+use layout::MAILBOX;
+use layout::REGISTERS;
+use layout::sct;
 use record::Device;
-use sizes::MAILBOX;
-use sizes::REGISTERS;
 ghost use mathlib.Core.Path.{_≡_};
 ghost use Prim.Native.Nat.{_+_, _≤_, _<_};
 ghost use lib.ListN.{length};
@@ -17,16 +18,20 @@ ghost use Rattle.model.specs.Fill.{interrupt};
 ghost use Rattle.model.specs.Decide.{decideKey};
 ghost use Rattle.store.specs.Areas.{privateSize};
 ghost use Rattle.store.specs.Store.{slotBytes};
-ghost use Rattle.control.specs.Change.{Changed};
-ghost use Rattle.decision.specs.Meaning.{Decided};
+ghost use Rattle.device_update.specs.Change.{Changed};
+ghost use Rattle.decision.specs.DecisionMeaning.{Decided};
 
 // The device with its fill stopped, and the words of the key at `at` recorded.
 fn recorded(area: &[u8], at: usize, d: Device) -> Device
     requires { ⌜ (at + sectorSize ≤ length (now area)) × (length (d .slots) ≡ portCount) ⌝ }
     ensures { λ e. ⌜ Changed (λ x. withKey (word (part (now (area .entry)) at sectorSize) 0) (word (part (now (area .entry)) at sectorSize) 1) (interrupt x)) d e ⌝ }
 {
-    let stopped = control::interrupt(d);
-    control::with_key(stopped, wire::u16_at(area, at), wire::u16_at(area, at + 2))
+    let stopped = device_update::interrupt(d);
+    device_update::with_key(
+        stopped,
+        wire::u16_at(area, at),
+        wire::u16_at(area, at + sct::FUNCTION_AT),
+    )
 }
 
 // "Words 0 and 1 are action and function; both are recorded from every key, accepted or not." "A refused key stores its code. An accepted
@@ -38,9 +43,9 @@ pub fn decide_key(area: &[u8], p: usize, d: Device) -> Decision
     let at = MAILBOX * p + REGISTERS;
     let e = recorded(area, at, d);
     let key = key::read_key(area, at, d.locked, d.visible);
-    let KeyRead::Accepted(action) = key else {
+    let Verdict::Accepted(action) = key else {
         let code = key::refusal_of(key);
-        return replied(control::with_code(e, code), reply::refused_with(code));
+        return replied(device_update::with_code(e, code), reply::refused_with(code));
     };
-    decision::carry_out(control::with_code(e, 0x0000), p, action)
+    decision::carry_out(device_update::with_code(e, sct::COMPLETE), p, action)
 }

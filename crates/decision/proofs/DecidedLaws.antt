@@ -7,10 +7,10 @@ use Rattle.model.specs.Device.{Device}
 use Rattle.model.specs.Registers.{Registers}
 use Rattle.model.specs.Decide.{Effect, Decision, decision}
 use Rattle.record.specs.declared.device as device
-use Rattle.record.specs.Meaning.{asDevice, historyAfter, stagesOf}
-use Rattle.control.specs.Change.{Changed}
+use Rattle.record.specs.DeviceMeaning.{asDevice, historyAfter, stagesOf}
+use Rattle.device_update.specs.Change.{Changed}
 use Rattle.decision.specs.declared.decision as code
-use Rattle.decision.specs.Meaning.{Says, Decided}
+use Rattle.decision.specs.DecisionMeaning.{Says, Decided}
 
 -- THE LAW of a decision: its device is d changed by f, its registers are those that w gives
 pub says-decided : (m : List ℕ) (f : Device → Device) (w : Device → Registers) (effect : List ℕ → Effect) (d e : device.Device.Device) (q : Registers) (k : code.Decision.Decision)

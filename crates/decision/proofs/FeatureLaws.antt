@@ -7,11 +7,11 @@ use Rattle.model.specs.Registers.{good}
 use Rattle.model.specs.Key.{FeatureName, setFeature}
 use Rattle.model.specs.Decide.{nothing, decision, carryOut}
 use Rattle.record.specs.declared.device as device
-use Rattle.record.specs.Meaning.{asDevice, historyAfter}
-use Rattle.reply.specs.Meaning.{asRegisters}
+use Rattle.record.specs.DeviceMeaning.{asDevice, historyAfter}
+use Rattle.reply.specs.ReplyMeaning.{asRegisters}
 use Rattle.settings.specs.Features.{isInterval, FeatureSet}
 use Rattle.decision.specs.declared.decision as code
-use Rattle.decision.specs.Meaning.{asEffect, Decided}
+use Rattle.decision.specs.DecisionMeaning.{asEffect, Decided}
 
 pub feature-decided : (m : List ℕ) (name : FeatureName) (n : ℕ) (keep : Bool) (p : ℕ) (d : device.Device.Device) (k : code.Decision.Decision)
     → FeatureSet name n keep d (k .device) → asRegisters (k .reply) ≡ good 0 0 → asEffect k m ≡ nothing → k .empties ≡ isInterval name

@@ -1,2 +1,2 @@
 -- What a decision says.
-pub mod Meaning
+pub mod DecisionMeaning

@@ -18,9 +18,9 @@ ghost use Rattle.model.specs.Sizes.{portCount};
 ghost use Rattle.model.specs.Registers.{dataOf};
 ghost use Rattle.model.specs.Key.{patternSector, setFeature};
 ghost use Rattle.model.specs.Decide.{feature, carryOut};
-ghost use Rattle.record.specs.Meaning.{asSettings, asFeatureName};
-ghost use Rattle.key.specs.Meaning.{asAction};
-ghost use Rattle.decision.specs.Meaning.{Decided};
+ghost use Rattle.record.specs.DeviceMeaning.{asSettings, asFeatureName};
+ghost use Rattle.key.specs.VerdictMeaning.{asAction};
+ghost use Rattle.decision.specs.DecisionMeaning.{Decided};
 
 fn state_of(name: FeatureName, s: Settings) -> u16
     ensures { λ r. ⌜ r ≡ feature (asFeatureName name) (asSettings s) .state ⌝ }
@@ -63,7 +63,7 @@ pub fn carry_out(d: Device, p: usize, action: Action) -> Decision
     match action {
         Action::FillPattern(first, end) => to_write(d, Writing::PatternFill(first, end)),
         Action::FillSector(first, end) => replied(
-            control::with_pending(d, p, Transfer::FillData(first, end)),
+            device_update::with_pending(d, p, Transfer::FillData(first, end)),
             reply::good(0, 1),
         ),
         Action::SetTimer(dir, n) => replied(settings::set_timer(d, dir, n), reply::good(0, 0)),
@@ -72,7 +72,7 @@ pub fn carry_out(d: Device, p: usize, action: Action) -> Decision
         Action::ReturnState(name) => replied(d, reply::good(state_of(name, s), 0)),
         Action::ReturnOption(name) => replied(d, reply::good(option_of(name, s), 0)),
         Action::SendTable => replied(
-            control::with_pending(d, p, Transfer::Table),
+            device_update::with_pending(d, p, Transfer::Table),
             reply::good(0, 1),
         ),
     }

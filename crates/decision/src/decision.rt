@@ -3,8 +3,8 @@ use record::Device;
 use reply::Reply;
 ghost use Rattle.model.specs.Registers.{good};
 ghost use Rattle.model.specs.Decide.{nothing, writing, sending};
-ghost use Rattle.reply.specs.Meaning.{asRegisters};
-ghost use Rattle.decision.specs.Meaning.{asWriting, asSending, Says};
+ghost use Rattle.reply.specs.ReplyMeaning.{asRegisters};
+ghost use Rattle.decision.specs.DecisionMeaning.{asWriting, asSending, Says};
 
 // What is to be written: a sector at an LBA, or a fill that begins, with its first sector and its end. The content is in the slot: its
 // data for Sector and DataFill, the pattern of its key for PatternFill.

@@ -1,11 +1,20 @@
 // The desk program: records of one byte and a mailbox on standard input, served on a fresh disk of 64 sectors, a line for each.
+use console::Arrival;
+use layout::MAILBOX;
+use layout::PRIVATE;
+use layout::RECORD;
+use layout::SECTOR;
 use libc::STDIN_FILENO;
 use libc::STDOUT_FILENO;
-use sizes::PRIVATE;
-use sizes::RECORD;
-use text::Arrival;
 ghost use mathlib.Core.Path.{_≡_};
 ghost use lib.ListN.{length};
+
+// "records of one byte (work count) and a 528-byte mailbox"; "a fresh 64-sector disk"; a line has at most 64 bytes.
+const INPUT: usize = 1 + MAILBOX;
+
+const DISK: usize = 64 * SECTOR;
+
+const LINE: usize = 64;
 
 // Serves record `number` and writes its line. Answers whether to go on.
 fn answer(
@@ -19,8 +28,8 @@ fn answer(
     requires { ⌜ length (now input) ≡ 529 ⌝ }
 {
     let n = input[0];
-    let mut line = [0u8; 64];
-    let end = session::turn(&mut line, number, n, &mut input[1..], device, area, disk);
+    let mut line = [0u8; LINE];
+    let end = desk_session::turn(&mut line, number, n, &mut input[1..], device, area, disk);
     io::write_all(STDOUT_FILENO, &line[..end])
 }
 
@@ -28,9 +37,9 @@ fn answer(
 fn next(device: &mut [u8], area: &mut [u8], disk: &mut [u8], number: u64) -> bool
     requires { ⌜ length (now device) ≡ 1024 ⌝ }
 {
-    let mut input = [0u8; 529];
+    let mut input = [0u8; INPUT];
     let count = io::read_full(STDIN_FILENO, &mut input);
-    let arrival = text::arrived(count, 529);
+    let arrival = console::arrived(count, INPUT);
     match arrival {
         Arrival::Whole => answer(device, area, disk, number, &mut input),
         Arrival::Cut => {
@@ -53,8 +62,8 @@ fn all(device: &mut [u8], area: &mut [u8], disk: &mut [u8])
 fn main() {
     let mut device = [0u8; RECORD];
     let mut area = [0u8; PRIVATE];
-    let mut disk = [0u8; 32768];
+    let mut disk = [0u8; DISK];
     io::write_all(STDOUT_FILENO, b"n status error code written\n");
-    service::sct_power_on(&mut device, &mut area, &disk, b"", 0);
+    sct_disk::sct_power_on(&mut device, &mut area, &disk, b"", 0);
     all(&mut device, &mut area, &mut disk);
 }

@@ -11,10 +11,10 @@ use Rattle.wire.proofs.PartsLaws.{length-part}
 use Rattle.model.specs.Sizes.{historySize, missing}
 use Rattle.model.specs.Temperature.{tableHeadSize, emptyHistory}
 use Rattle.store.specs.Areas.{headSize}
-use Rattle.record.specs.Meaning.{historyOf, historyAfter}
-use Rattle.writing.specs.Framed.{Framed}
-use Rattle.writing.proofs.FramedLaws.{emptied-framed}
-use Rattle.writing.proofs.HistoryLaws.{history-emptied}
+use Rattle.record.specs.DeviceMeaning.{historyOf, historyAfter}
+use Rattle.record_write.specs.Framed.{Framed}
+use Rattle.record_write.proofs.FramedLaws.{emptied-framed}
+use Rattle.record_write.proofs.HistoryLaws.{history-emptied}
 
 module _ (r : List ℕ) (f : Framed r) where
   abbrev emptied : Bool → List ℕ

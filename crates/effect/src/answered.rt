@@ -11,26 +11,26 @@ ghost use Rattle.model.specs.Temperature.{tableHeadSize, emptyHistory};
 ghost use Rattle.store.specs.Areas.{headSize};
 ghost use Rattle.store.specs.Record.{answered, encode};
 ghost use Rattle.store.specs.Entries.{withStage};
-ghost use Rattle.record.specs.Meaning.{asContents, historyOf, historyAfter};
-ghost use Rattle.writing.specs.Framed.{Framed};
+ghost use Rattle.record.specs.DeviceMeaning.{asContents, historyOf, historyAfter};
+ghost use Rattle.record_write.specs.Framed.{Framed};
 
 // Empties the record's history, where asked.
-fn empty_if(r: &mut [u8], asked: bool)
-    requires { ⌜ Framed (now r) ⌝ }
-    ensures { λ _. ⌜ now (r .exit) ≡ (if asked then sets (now (r .entry)) (headSize + tableHeadSize) emptyHistory else now (r .entry)) ⌝ }
+fn empty_if(device: &mut [u8], asked: bool)
+    requires { ⌜ Framed (now device) ⌝ }
+    ensures { λ _. ⌜ now (device .exit) ≡ (if asked then sets (now (device .entry)) (headSize + tableHeadSize) emptyHistory else now (device .entry)) ⌝ }
 {
     if !asked {
         return;
     }
-    writing::empty_history(r);
+    record_write::empty_history(device);
 }
 
 // Writes the device with slot p answered.
-pub fn finish(r: &mut [u8], p: usize, d: Device, empties: bool)
-    requires { ⌜ Framed (now r) × (p < portCount) × (length (d .slots) ≡ portCount) ⌝ }
-    ensures { λ _. ⌜ now (r .exit) ≡ encode (withStage p answered (asContents d (historyAfter empties (historyOf (now (r .entry)))))) ⌝ }
+pub fn finish(device: &mut [u8], p: usize, d: Device, empties: bool)
+    requires { ⌜ Framed (now device) × (p < portCount) × (length (d .slots) ≡ portCount) ⌝ }
+    ensures { λ _. ⌜ now (device .exit) ≡ encode (withStage p answered (asContents d (historyAfter empties (historyOf (now (device .entry)))))) ⌝ }
 {
-    empty_if(r, empties);
-    writing::write(r, d);
-    writing::put_stage(r, p, Stage::Answered);
+    empty_if(device, empties);
+    record_write::write(device, d);
+    record_write::put_stage(device, p, Stage::Answered);
 }

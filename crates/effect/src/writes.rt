@@ -1,10 +1,10 @@
 // What a decision writes: a sector on the disk, or the sector of a fill in the private area; and the device after it.
 use decision::Writing;
+use layout::MAILBOX;
+use layout::REGISTERS;
+use layout::SECTOR;
+use layout::SECTOR_U64;
 use record::Device;
-use sizes::MAILBOX;
-use sizes::REGISTERS;
-use sizes::SECTOR;
-use sizes::SECTOR_U64;
 ghost use mathlib.Core.Path.{_≡_};
 ghost use mathlib.Core.List.{List};
 ghost use Prim.Native.Nat.{ℕ, _+_, _*_, _≤_, _<_};
@@ -15,8 +15,8 @@ ghost use Rattle.model.specs.Registers.{dataOf};
 ghost use Rattle.store.specs.Areas.{privateSize};
 ghost use Rattle.store.specs.Store.{slotBytes};
 ghost use Rattle.store.specs.Entries.{withFillSector};
-ghost use Rattle.control.specs.Change.{Changed};
-ghost use Rattle.decision.specs.Meaning.{asWriting};
+ghost use Rattle.device_update.specs.Change.{Changed};
+ghost use Rattle.decision.specs.DecisionMeaning.{asWriting};
 ghost use Rattle.effect.specs.Effects.{deviceAfter, sectorsAfter, WritesWithin};
 
 // Writes the data of slot p to the sector at an LBA.
@@ -53,8 +53,8 @@ pub fn device_after(d: Device, writes: Writing) -> Device
 {
     match writes {
         Writing::Nothing => d,
-        Writing::Sector(_) => control::with_flag_cleared(d),
-        Writing::PatternFill(first, end) => control::start_fill(d, first, end),
-        Writing::DataFill(first, end) => control::start_fill(d, first, end),
+        Writing::Sector(_) => device_update::with_flag_cleared(d),
+        Writing::PatternFill(first, end) => device_update::start_fill(d, first, end),
+        Writing::DataFill(first, end) => device_update::start_fill(d, first, end),
     }
 }

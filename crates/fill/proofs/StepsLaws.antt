@@ -20,15 +20,15 @@ use Rattle.model.specs.Valid.{FillValid}
 use Rattle.model.specs.Fill.{Volume, advanced, sectorStep, iterate, remaining, workCount, work}
 use Rattle.model.proofs.WorkLaws.{steps-device, steps-disk}
 use Rattle.record.specs.declared.device as code
-use Rattle.record.specs.Meaning.{asFill, asDevice, asContents, historyOf}
+use Rattle.record.specs.DeviceMeaning.{asFill, asDevice, asContents, historyOf}
 use Rattle.store.specs.Areas.{fillPlace, privateSize}
 use Rattle.store.specs.Record.{fillNext, Contents, decode, encode}
 use Rattle.store.specs.Sound.{sound}
 use Rattle.store.specs.Store.{fillSectorOf}
 use Rattle.store.specs.Entries.{withDevice, workDone}
 use Rattle.store.proofs.SoundLaws.{sound-valid}
-use Rattle.control.specs.Change.{Changed}
-use Rattle.control.proofs.ChangeLaws.{changed-contents}
+use Rattle.device_update.specs.Change.{Changed}
+use Rattle.device_update.proofs.ChangeLaws.{changed-contents}
 use Rattle.fill.specs.Moved.{fillMoved, movedOn}
 
 -- ---- the device

@@ -1,9 +1,9 @@
 // A running fill worked off: how many sectors a budget allows, the sectors written, and the device behind them.
+use layout::FILL_AT;
+use layout::SECTOR;
+use layout::SECTOR_U64;
 use record::Device;
 use record::Fill;
-use sizes::FILL_AT;
-use sizes::SECTOR;
-use sizes::SECTOR_U64;
 ghost use mathlib.Core.Path.{_≡_};
 ghost use mathlib.Core.Bool.{true};
 ghost use Prim.Native.Nat.{_+_, _*_, _-_, _≤_};
@@ -12,13 +12,13 @@ ghost use lib.Seq.{sets};
 ghost use Rattle.wire.specs.Parts.{repeated};
 ghost use Rattle.model.specs.Sizes.{sectorSize};
 ghost use Rattle.model.specs.Fill.{remaining, workCount};
-ghost use Rattle.record.specs.Meaning.{asFill};
+ghost use Rattle.record.specs.DeviceMeaning.{asFill};
 ghost use Rattle.store.specs.Areas.{privateSize};
 ghost use Rattle.store.specs.Store.{fillSectorOf};
 ghost use Rattle.store.specs.Record.{fillNext, decode};
 ghost use Rattle.store.specs.Sound.{sound};
 ghost use Rattle.store.specs.Entries.{workDone};
-ghost use Rattle.control.specs.Change.{Changed};
+ghost use Rattle.device_update.specs.Change.{Changed};
 ghost use Rattle.fill.specs.Moved.{movedOn};
 
 // a - b, and 0 where b is greater.
@@ -83,22 +83,22 @@ fn moved_on(d: Device, k: u32) -> Device
     let Fill::Running(first, next, end) = fill else {
         return d;
     };
-    control::sector_written(d, first, next + k as u64, end)
+    device_update::sector_written(d, first, next + k as u64, end)
 }
 
 // "writes the next sectors of a running fill, as many as n and what is left allow, and reports how many it wrote": n is a budget.
-pub fn work(r: &mut [u8], area: &[u8], disk: &mut [u8], n: u32) -> u32
-    requires { ⌜ (sound (now r) ≡ true) × (length (now area) ≡ privateSize) × (length (now disk) ≡ sectorSize * decode (now r) .device .visible) ⌝ }
-    ensures count { λ k. ⌜ k ≡ workDone (now (r .entry)) (now (area .entry)) (now (disk .entry)) n .count ⌝ }
-    ensures bytes { λ _. ⌜ now (r .exit) ≡ workDone (now (r .entry)) (now (area .entry)) (now (disk .entry)) n .recordArea ⌝ }
-    ensures disk { λ _. ⌜ now (disk .exit) ≡ workDone (now (r .entry)) (now (area .entry)) (now (disk .entry)) n .disk ⌝ }
+pub fn work(device: &mut [u8], area: &[u8], disk: &mut [u8], n: u32) -> u32
+    requires { ⌜ (sound (now device) ≡ true) × (length (now area) ≡ privateSize) × (length (now disk) ≡ sectorSize * decode (now device) .device .visible) ⌝ }
+    ensures count { λ k. ⌜ k ≡ workDone (now (device .entry)) (now (area .entry)) (now (disk .entry)) n .count ⌝ }
+    ensures bytes { λ _. ⌜ now (device .exit) ≡ workDone (now (device .entry)) (now (area .entry)) (now (disk .entry)) n .recordArea ⌝ }
+    ensures disk { λ _. ⌜ now (disk .exit) ≡ workDone (now (device .entry)) (now (area .entry)) (now (disk .entry)) n .disk ⌝ }
 {
-    let d = record::decode(r);
+    let d = record::decode(device);
     let c = d.command;
     let fill = c.fill;
     let k = count_of(n, fill);
     write_sectors(disk, area, next_of(fill), k);
     let e = moved_on(d, k);
-    writing::write(r, e);
+    record_write::write(device, e);
     k
 }

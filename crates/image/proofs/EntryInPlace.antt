@@ -26,10 +26,10 @@ use Rattle.model.specs.Image.{Saved, nativePlace, visiblePlace, flagPlace, life
 use Rattle.model.proofs.FormatLaws.{table-at}
 use Rattle.model.proofs.EntryLaws.{SavedFits, saved-at, read-fits}
 use Rattle.model.proofs.EntryFormat.{BodyAt, body-at, get-trailer, trailer-fields}
-use Rattle.store.specs.InPlace.{tableFixed}
+use Rattle.store.specs.RecordTests.{tableFixed}
 use Rattle.store.proofs.TableInPlace.{implied, table-is, table-fixed}
-use Rattle.store.proofs.InPlaceLaws.{flag-exact}
-use Rattle.image.specs.InPlace.{bodyInPlace, trailerInPlace}
+use Rattle.store.proofs.RecordTestLaws.{flag-exact}
+use Rattle.image.specs.EntryTests.{bodyInPlace, trailerInPlace}
 
 -- ---- a body's head
 

@@ -1,4 +1,4 @@
 -- Laws of the image crate, in reading order.
 pub mod EntryInPlace
 pub mod ChainLaws
-pub mod RefusalLaws
+pub mod ImageAnswers

@@ -1,2 +1,2 @@
 -- An entry tested in place.
-pub mod InPlace
+pub mod EntryTests

@@ -1,10 +1,10 @@
 // The chain of entries, from the last trailer back.
 use crate::entry::entry_holds;
 use crate::entry::native_at;
-use sizes::ENTRY;
-use sizes::IMAGE_LIMIT;
-use sizes::TRAILER;
-use sizes::entry;
+use layout::ENTRY;
+use layout::IMAGE_LIMIT;
+use layout::TRAILER;
+use layout::entry;
 ghost use mathlib.Core.Path.{_≡_};
 ghost use Prim.Native.Nat.{_+_, _*_, _≤_};
 ghost use lib.ListN.{length};

@@ -1,11 +1,12 @@
 // One entry of the saved image, tested in place: its body, its trailer.
-use sizes::BODY;
-use sizes::BODY_U32;
-use sizes::ENTRY_U32;
-use sizes::HISTORY_U16;
-use sizes::NATIVE_LIMIT;
-use sizes::TRAILER_U32;
-use sizes::entry;
+use layout::BODY;
+use layout::BODY_U32;
+use layout::ENTRY_U32;
+use layout::HISTORY_U16;
+use layout::NATIVE_LIMIT;
+use layout::TRAILER_U32;
+use layout::entry;
+use layout::sct;
 ghost use mathlib.Core.Path.{_≡_};
 ghost use Prim.Native.Nat.{_+_, _*_, _≤_};
 ghost use lib.ListN.{length};
@@ -13,7 +14,7 @@ ghost use Rattle.wire.specs.Parts.{part};
 ghost use Rattle.wire.specs.Bytes.{same};
 ghost use Rattle.model.specs.Sizes.{bodySize, trailerSize, entrySize, entryLimit};
 ghost use Rattle.model.specs.Image.{Saved, savedAt, inRange, alike, tag, previousPlace, trailerPlace, entryHolds};
-ghost use Rattle.image.specs.InPlace.{bodyInPlace, trailerInPlace};
+ghost use Rattle.image.specs.EntryTests.{bodyInPlace, trailerInPlace};
 
 // "then the letters SCTE"
 pub const TAG: [u8; 4] = *b"SCTE";
@@ -39,9 +40,9 @@ fn values_in_range(image: &[u8], at: usize) -> bool
     let index = wire::u16_at(image, at + entry::INDEX_AT);
     ((1 <= native) & (native <= NATIVE_LIMIT))
         & ((1 <= visible) & (visible <= native))
-        & ((1 <= cache) & (cache <= 3))
-        & ((1 <= reordering) & (reordering <= 2))
-        & ((1 <= interval) & (interval <= 65535))
+        & ((1 <= cache) & (cache <= sct::WRITE_CACHE_LIMIT))
+        & ((1 <= reordering) & (reordering <= sct::REORDERING_LIMIT))
+        & ((1 <= interval) & (interval <= sct::LOG_INTERVAL_LIMIT))
         & (index < HISTORY_U16)
 }
 
@@ -53,11 +54,11 @@ fn body_holds(image: &[u8], at: usize) -> bool
     let flag = wire::u8_at(image, at + entry::FLAG_AT);
     let options = wire::u8_at(image, at + entry::OPTIONS_AT);
     let zero = runs::is_zero(image, at + entry::ZEROS_AT, entry::ZEROS);
-    let fixed = soundness::table_fixed(image, at + entry::TABLE_AT);
+    let fixed = record_check::table_fixed(image, at + entry::TABLE_AT);
     let logged = wire::u16_at(image, at + entry::TABLE_INTERVAL_AT);
     let state = wire::u16_at(image, at + entry::INTERVAL_AT);
     let ranged = values_in_range(image, at);
-    (flag <= 1) & (options <= 7) & zero & fixed & (logged == state) & ranged
+    (flag <= 1) & (options <= entry::OPTIONS_LIMIT) & zero & fixed & (logged == state) & ranged
 }
 
 // "all entries have the same N": whether the body at `at` is like that of the newest entry, whose N is `native`.
@@ -86,7 +87,7 @@ fn tag_holds(image: &[u8], at: usize) -> bool
     ensures { λ r. ⌜ r ≡ same (part (now (image .entry)) at 4) tag ⌝ }
 {
     let letters = TAG;
-    runs::same_part(image, at, &letters, 0, 4)
+    runs::same_part(image, at, &letters, 0, entry::TAG)
 }
 
 // Whether trailer `number` stands at `at`.

@@ -1,8 +1,9 @@
 // The answers to an image: whether it can be read for this disk, and whether it can take one more entry.
 use crate::chain::readable;
 use crate::entry::native_at;
-use sizes::ENTRIES;
-use sizes::ENTRY;
+use layout::ENTRIES;
+use layout::ENTRY;
+use layout::answer;
 ghost use mathlib.Core.Path.{_≡_};
 ghost use mathlib.Core.Bool.{true};
 ghost use Prim.Native.Nat.{_≤_};
@@ -26,13 +27,13 @@ pub fn read_refusal(native: u64, image: &[u8], used: usize) -> u32
     ensures { λ r. ⌜ r ≡ firstFailed (imageChecks native (now (image .entry)) used) ⌝ }
 {
     if used > image.len() {
-        return 2;
+        return answer::BAD_LENGTH;
     }
     if !readable(image, used) {
-        return 6;
+        return answer::BAD_IMAGE;
     }
     if !same_disk(native, image, used) {
-        return 7;
+        return answer::OTHER_DISK;
     }
     0
 }
@@ -54,7 +55,7 @@ pub fn save_refusal(native: u64, image: &[u8], used: usize) -> u32
         return n;
     }
     if !has_room(image, used) {
-        return 8;
+        return answer::IMAGE_FULL;
     }
     0
 }

@@ -1,8 +1,9 @@
 // Saved images: save and power-on.
-use sizes::NATIVE_LIMIT;
-use sizes::PRIVATE;
-use sizes::RECORD;
-use sizes::SECTOR;
+use layout::NATIVE_LIMIT;
+use layout::PRIVATE;
+use layout::RECORD;
+use layout::SECTOR;
+use layout::answer;
 ghost use mathlib.Core.Path.{_≡_};
 ghost use mathlib.Core.List.{List};
 ghost use Prim.Native.Nat.{ℕ};
@@ -17,8 +18,8 @@ const MOST_SECTORS: usize = NATIVE_LIMIT as usize;
 fn save_refusal(device: &[u8], image: &[u8], used: usize) -> u32
     ensures { λ n. ⌜ n ≡ firstFailed (saveChecks (now (device .entry)) (now (image .entry)) used) ⌝ }
 {
-    if !soundness::sound(device) {
-        return 4;
+    if !record_check::sound(device) {
+        return answer::BAD_RECORD;
     }
     image::save_refusal(record::native_at(device), image, used)
 }
@@ -55,13 +56,13 @@ fn power_on_refusal(
     ensures { λ n. ⌜ ((r a sectors : List ℕ) → length r ≡ «device_len» → length a ≡ «area_len» → length sectors ≡ «disk_len» → n ≡ firstFailed (powerOnChecks r a sectors (now (image .entry)) used)) ⌝ }
 {
     if device_len != RECORD {
-        return 2;
+        return answer::BAD_LENGTH;
     }
     if area_len != PRIVATE {
-        return 2;
+        return answer::BAD_LENGTH;
     }
     if !is_whole(disk_len) {
-        return 2;
+        return answer::BAD_LENGTH;
     }
     image::read_refusal((disk_len / SECTOR) as u64, image, used)
 }

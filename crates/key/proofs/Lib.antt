@@ -1,3 +1,3 @@
 -- Laws of a key as the code reads it.
 pub mod SumLaws
-pub mod KeyReadLaws
+pub mod VerdictLaws

@@ -1,2 +1,2 @@
 -- What a key as the code reads it says.
-pub mod Meaning
+pub mod VerdictMeaning

@@ -1,4 +1,5 @@
 // The key sector: read, checked in the paper's order, and what an accepted key asks.
+use layout::sct;
 use record::Direction;
 use record::FeatureName;
 use wire::u16_at;
@@ -13,8 +14,8 @@ ghost use Rattle.wire.specs.Parts.{part};
 ghost use Rattle.model.specs.Sizes.{sectorSize};
 ghost use Rattle.model.specs.Device.{Device};
 ghost use Rattle.model.specs.Key.{word, start, count, highestState, timerName, featureName, fillChecks, timerChecks, featureChecks, tableChecks, fillEnd, fillPattern, fillSector, fillAction, timerAction, setFeature, returnState, returnOption, featureAction, sendTable, patternSector, verdict, judgeKey};
-ghost use Rattle.record.specs.Meaning.{asDirection, asFeatureName};
-ghost use Rattle.key.specs.Meaning.{asAction, asVerdict, refusalOf};
+ghost use Rattle.record.specs.DeviceMeaning.{asDirection, asFeatureName};
+ghost use Rattle.key.specs.VerdictMeaning.{asAction, asVerdict, refusalOf};
 
 // A fill's numbers are its first sector and its end. A timer is set to a number of 100 ms; a feature to a state, with true where the
 // option is 1: "Option 1 keeps a state over power".
@@ -30,18 +31,18 @@ pub enum Action {
 }
 
 // A key is accepted with what it asks, or refused with its code.
-pub enum KeyRead {
+pub enum Verdict {
     Accepted(Action),
-    Refused(u16),
+    Rejected(u16),
 }
 
 // The code of a refused key, and 0 of an accepted one.
-pub fn refusal_of(key: KeyRead) -> u16
+pub fn refusal_of(key: Verdict) -> u16
     ensures { λ r. ⌜ r ≡ refusalOf key ⌝ }
 {
     match key {
-        KeyRead::Accepted(_) => 0,
-        KeyRead::Refused(code) => code,
+        Verdict::Accepted(_) => 0,
+        Verdict::Rejected(code) => code,
     }
 }
 
@@ -75,37 +76,37 @@ fn sum_within(first: u64, sectors: u64, last: u64) -> bool
 fn fill_asked(function: u16, first: u64, end: u64) -> Action
     ensures { λ r. ⌜ ((sector : List ℕ) → asAction r sector ≡ (if eqb function 1 then fillPattern first end sector else fillSector first end)) ⌝ }
 {
-    if function == 1 {
+    if function == sct::FILL_PATTERN {
         return Action::FillPattern(first, end);
     }
     Action::FillSector(first, end)
 }
 
 // Action 2: "1 pattern, 2 sector; else 0001h"; "Start above last user LBA, or Start + Count above last user LBA: 0002h".
-fn fill_key(function: u16, first: u64, sectors: u64, visible: u64) -> KeyRead
+fn fill_key(function: u16, first: u64, sectors: u64, visible: u64) -> Verdict
     requires { ⌜ 1 ≤ visible ⌝ }
     ensures { λ r. ⌜ ((k : List ℕ) → word k 1 ≡ function → start k ≡ first → count k ≡ sectors → asVerdict r (patternSector k) ≡ verdict (firstFailed (fillChecks visible k)) (fillAction visible k)) ⌝ }
 {
-    if !between(1, function, 2) {
-        return KeyRead::Refused(0x0001);
+    if !between(sct::FILL_PATTERN, function, sct::FILL_SECTOR) {
+        return Verdict::Rejected(sct::INVALID_FUNCTION);
     }
     let last = visible - 1;
     if first > last {
-        return KeyRead::Refused(0x0002);
+        return Verdict::Rejected(sct::LBA_OUT_OF_RANGE);
     }
     if !sum_within(first, sectors, last) {
-        return KeyRead::Refused(0x0002);
+        return Verdict::Rejected(sct::LBA_OUT_OF_RANGE);
     }
     let end = fill_end(first, sectors, visible);
     let action = fill_asked(function, first, end);
-    KeyRead::Accepted(action)
+    Verdict::Accepted(action)
 }
 
 // "word 2 is 1 read or 2 write"
 fn timer_name(name: u16) -> Direction
     ensures { λ r. ⌜ asDirection r ≡ timerName name ⌝ }
 {
-    if name == 1 {
+    if name == sct::READ_TIMER {
         return Direction::Read;
     }
     Direction::Write
@@ -115,74 +116,74 @@ fn timer_name(name: u16) -> Direction
 fn timer_code(name: u16) -> u16
     ensures { λ r. ⌜ r ≡ (if eqb name 1 then 0x0006 else 0x0007) ⌝ }
 {
-    if name == 1 {
-        return 0x0006;
+    if name == sct::READ_TIMER {
+        return sct::READ_TIMER_BELOW_MINIMUM;
     }
-    0x0007
+    sct::WRITE_TIMER_BELOW_MINIMUM
 }
 
 // Action 3: "1 set, 2 return; else 0004h"; "word 2 is 1 read or 2 write, else 0005h";
 // "set: word 3 in 100 ms, 1 to 9 gives 0006h (read) or 0007h (write); 0 is off"
-fn timer_key(function: u16, name: u16, time: u16) -> KeyRead
+fn timer_key(function: u16, name: u16, time: u16) -> Verdict
     ensures { λ r. ⌜ ((k : List ℕ) → word k 1 ≡ function → word k 2 ≡ name → word k 3 ≡ time → asVerdict r (patternSector k) ≡ verdict (firstFailed (timerChecks k)) (timerAction k)) ⌝ }
 {
-    if !between(1, function, 2) {
-        return KeyRead::Refused(0x0004);
+    if !between(sct::TIMER_SET, function, sct::TIMER_RETURN) {
+        return Verdict::Rejected(sct::INVALID_TIMER_FUNCTION);
     }
-    if !between(1, name, 2) {
-        return KeyRead::Refused(0x0005);
+    if !between(sct::READ_TIMER, name, sct::WRITE_TIMER) {
+        return Verdict::Rejected(sct::INVALID_TIMER_SELECTION);
     }
     let dir = timer_name(name);
-    if function == 1 {
-        if between(1, time, 9) {
-            return KeyRead::Refused(timer_code(name));
+    if function == sct::TIMER_SET {
+        if between(1, time, sct::TIMER_TOO_SHORT) {
+            return Verdict::Rejected(timer_code(name));
         }
-        return KeyRead::Accepted(Action::SetTimer(dir, time));
+        return Verdict::Accepted(Action::SetTimer(dir, time));
     }
-    KeyRead::Accepted(Action::ReturnTimer(dir))
+    Verdict::Accepted(Action::ReturnTimer(dir))
 }
 
 // "Feature states: 1 (write cache) ..; 2 (reordering) ..; 3 (log interval) .."
 fn feature_name(name: u16) -> FeatureName
     ensures { λ r. ⌜ asFeatureName r ≡ featureName name ⌝ }
 {
-    if name == 1 {
-        return FeatureName::Cache;
+    if name == sct::WRITE_CACHE {
+        return FeatureName::WriteCache;
     }
-    if name == 2 {
+    if name == sct::REORDERING {
         return FeatureName::Reordering;
     }
-    FeatureName::Interval
+    FeatureName::LogInterval
 }
 
 // "Feature states: 1 (write cache) 1 to 3; 2 (reordering) 1 or 2; 3 (log interval) 1 to 65,535 minutes."
 fn highest_state(name: u16) -> u16
     ensures { λ r. ⌜ r ≡ highestState name ⌝ }
 {
-    if name == 1 {
-        return 3;
+    if name == sct::WRITE_CACHE {
+        return sct::WRITE_CACHE_LIMIT;
     }
-    if name == 2 {
-        return 2;
+    if name == sct::REORDERING {
+        return sct::REORDERING_LIMIT;
     }
-    65535
+    sct::LOG_INTERVAL_LIMIT
 }
 
 // "word 4 other than 0 or 1 000Fh"; "Option 1 keeps a state over power"
-fn feature_set(feature: FeatureName, state: u16, option: u16) -> KeyRead
+fn feature_set(feature: FeatureName, state: u16, option: u16) -> Verdict
     ensures { λ r. ⌜ ((sector : List ℕ) → asVerdict r sector ≡ verdict (firstFailed ((leb option 1, 0x000F) ∷ [])) (setFeature (asFeatureName feature) state (eqb option 1))) ⌝ }
 {
     if option > 1 {
-        return KeyRead::Refused(0x000F);
+        return Verdict::Rejected(sct::INVALID_OPTION);
     }
-    KeyRead::Accepted(Action::SetFeature(feature, state, option == 1))
+    Verdict::Accepted(Action::SetFeature(feature, state, option == 1))
 }
 
 // "2 state, 3 options"
 fn feature_returned(function: u16, feature: FeatureName) -> Action
     ensures { λ r. ⌜ ((sector : List ℕ) → asAction r sector ≡ (if eqb function 2 then returnState (asFeatureName feature) else returnOption (asFeatureName feature))) ⌝ }
 {
-    if function == 2 {
+    if function == sct::FEATURE_STATE {
         return Action::ReturnState(feature);
     }
     Action::ReturnOption(feature)
@@ -190,68 +191,68 @@ fn feature_returned(function: u16, feature: FeatureName) -> Action
 
 // Action 4: "1 set, 2 state, 3 options; else 000Ch"; "word 2 is 1 to 3, else 000Dh";
 // "set only: word 3 invalid 000Eh, then word 4 other than 0 or 1 000Fh"
-fn feature_key(function: u16, name: u16, state: u16, option: u16) -> KeyRead
+fn feature_key(function: u16, name: u16, state: u16, option: u16) -> Verdict
     ensures { λ r. ⌜ ((k : List ℕ) → word k 1 ≡ function → word k 2 ≡ name → word k 3 ≡ state → word k 4 ≡ option → asVerdict r (patternSector k) ≡ verdict (firstFailed (featureChecks k)) (featureAction k)) ⌝ }
 {
-    if !between(1, function, 3) {
-        return KeyRead::Refused(0x000C);
+    if !between(sct::FEATURE_SET, function, sct::FEATURE_OPTIONS) {
+        return Verdict::Rejected(sct::INVALID_FEATURE_FUNCTION);
     }
-    if !between(1, name, 3) {
-        return KeyRead::Refused(0x000D);
+    if !between(sct::WRITE_CACHE, name, sct::LOG_INTERVAL) {
+        return Verdict::Rejected(sct::INVALID_FEATURE);
     }
     let feature = feature_name(name);
-    if function == 1 {
+    if function == sct::FEATURE_SET {
         if !between(1, state, highest_state(name)) {
-            return KeyRead::Refused(0x000E);
+            return Verdict::Rejected(sct::INVALID_STATE);
         }
         return feature_set(feature, state, option);
     }
     let action = feature_returned(function, feature);
-    KeyRead::Accepted(action)
+    Verdict::Accepted(action)
 }
 
 // Action 5: "1; else 0001h"; "word 2 is 2, else 0011h"
-fn table_key(function: u16, name: u16) -> KeyRead
+fn table_key(function: u16, name: u16) -> Verdict
     ensures { λ r. ⌜ ((k : List ℕ) → word k 1 ≡ function → word k 2 ≡ name → asVerdict r (patternSector k) ≡ verdict (firstFailed (tableChecks k)) sendTable) ⌝ }
 {
-    if function != 1 {
-        return KeyRead::Refused(0x0001);
+    if function != sct::TABLE_READ {
+        return Verdict::Rejected(sct::INVALID_FUNCTION);
     }
-    if name != 2 {
-        return KeyRead::Refused(0x0011);
+    if name != sct::HISTORY_TABLE {
+        return Verdict::Rejected(sct::INVALID_TABLE);
     }
-    KeyRead::Accepted(Action::SendTable)
+    Verdict::Accepted(Action::SendTable)
 }
 
 // The key sector at `at`: the lock comes first, with 0012h; then an action that is "not 2 to 5", with 0010h; then the action's checks.
 // Of the device a key's checks see the lock and V, and nothing else.
-pub fn read_key(area: &[u8], at: usize, locked: bool, visible: u64) -> KeyRead
+pub fn read_key(area: &[u8], at: usize, locked: bool, visible: u64) -> Verdict
     requires { ⌜ (at + sectorSize ≤ length (now area)) × (1 ≤ visible) ⌝ }
     ensures { λ r. ⌜ ((d : Device) → d .locked ≡ locked → d .visible ≡ visible → asVerdict r (patternSector (part (now (area .entry)) at sectorSize)) ≡ judgeKey d (part (now (area .entry)) at sectorSize)) ⌝ }
 {
     if locked {
-        return KeyRead::Refused(0x0012);
+        return Verdict::Rejected(sct::LOCKED);
     }
     let action = u16_at(area, at);
-    if !between(2, action, 5) {
-        return KeyRead::Refused(0x0010);
+    if !between(sct::ACTION_FILL, action, sct::ACTION_TABLE) {
+        return Verdict::Rejected(sct::INVALID_ACTION);
     }
-    let function = u16_at(area, at + 2);
-    if action == 2 {
+    let function = u16_at(area, at + sct::FUNCTION_AT);
+    if action == sct::ACTION_FILL {
         return fill_key(
             function,
-            u64_at(area, at + 4),
-            u64_at(area, at + 12),
+            u64_at(area, at + sct::START_AT),
+            u64_at(area, at + sct::COUNT_AT),
             visible,
         );
     }
-    let name = u16_at(area, at + 4);
-    let value = u16_at(area, at + 6);
-    if action == 3 {
+    let name = u16_at(area, at + sct::SELECTION_AT);
+    let value = u16_at(area, at + sct::VALUE_AT);
+    if action == sct::ACTION_TIMER {
         return timer_key(function, name, value);
     }
-    if action == 4 {
-        return feature_key(function, name, value, u16_at(area, at + 8));
+    if action == sct::ACTION_FEATURE {
+        return feature_key(function, name, value, u16_at(area, at + sct::OPTION_AT));
     }
     table_key(function, name)
 }

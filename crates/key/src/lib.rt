@@ -2,6 +2,6 @@
 mod key;
 
 pub use key::Action;
-pub use key::KeyRead;
+pub use key::Verdict;
 pub use key::read_key;
 pub use key::refusal_of;

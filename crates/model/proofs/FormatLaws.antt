@@ -55,7 +55,7 @@ pub record StatusAt (d : Device) (s : List ℕ) : Type 0 where
   pub action : get 2 s 16 ≡ d .command .action
   pub function : get 2 s 18 ≡ d .command .function
   pub lba : get 8 s 40 ≡ currentLba (d .command .fill)
-  pub now : get 1 s 200 ≡ d .thermal .now
+  pub current : get 1 s 200 ≡ d .thermal .current
   pub cycle : get 1 s 202 ≡ d .thermal .cycleMaximum
   pub life : get 1 s 204 ≡ d .thermal .lifeMaximum
   -- "All else 0."
@@ -114,7 +114,7 @@ status-at d v =
       action = r .1 .1 .1 .1 .1 .1 .0;
       function = r .1 .1 .1 .1 .1 .1 .1 .0;
       lba = r .1 .1 .1 .1 .1 .1 .1 .1 .0;
-      now = r .1 .1 .1 .1 .1 .1 .1 .1 .1 .0;
+      current = r .1 .1 .1 .1 .1 .1 .1 .1 .1 .0;
       cycle = r .1 .1 .1 .1 .1 .1 .1 .1 .1 .1 .0;
       life = r .1 .1 .1 .1 .1 .1 .1 .1 .1 .1 .1 .0;
       rest = form-outside sectorSize (statusFields d);

@@ -30,5 +30,5 @@ pub mod PowerOnLaws
 pub mod ImageSteps
 pub mod SavedThenOn
 pub mod ValidStep
-pub mod SoundLaws
+pub mod ValidClauses
 pub mod HiddenLaws

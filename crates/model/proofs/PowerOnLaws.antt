@@ -142,7 +142,7 @@ pub record KeptRules (s : Saved) (d : Device) : Type 0 where
   pub historyEmpty : (d .settings .logInterval .state ≡ s .logInterval .state → ⊥) → (d .thermal .history ≡ emptyHistory) × (d .thermal .index ≡ 477)
   pub minutes : d .thermal .minutes ≡ 0
   -- ".. with "now" and this cycle's maximum missing."
-  pub temperatures : (d .thermal .now ≡ 0x80) × (d .thermal .cycleMaximum ≡ 0x80)
+  pub temperatures : (d .thermal .current ≡ 0x80) × (d .thermal .cycleMaximum ≡ 0x80)
   pub asSaved : (d .native ≡ s .native) × (d .visible ≡ s .visible) × (d .initialized ≡ s .initialized) × (d .thermal .lifeMaximum ≡ s .lifeMaximum)
   -- "Unlocked, no fill, nothing owed, .. code, action and function 0"
   pub unlocked : d .locked ≡ false
@@ -186,7 +186,7 @@ Default f = (f .state ≡ 1) × (f .persistent ≡ false)
 pub record Fresh (native : ℕ) (d : Device) : Type 0 where
   pub sizes : (d .native ≡ native) × (d .visible ≡ native)
   pub flag : d .initialized ≡ false
-  pub temperatures : (d .thermal .now ≡ 0x80) × (d .thermal .cycleMaximum ≡ 0x80) × (d .thermal .lifeMaximum ≡ 0x80)
+  pub temperatures : (d .thermal .current ≡ 0x80) × (d .thermal .cycleMaximum ≡ 0x80) × (d .thermal .lifeMaximum ≡ 0x80)
   pub timers : (d .settings .readTimer ≡ 0) × (d .settings .writeTimer ≡ 0)
   pub features : Default (d .settings .writeCache) × Default (d .settings .reordering) × Default (d .settings .logInterval)
   -- "Empty history is all 80h, index 477, minutes 0"

@@ -53,13 +53,13 @@ pub record Emptied (before after : Thermal) : Type 0 where
   pub history : after .history ≡ replicate 478 0x80
   pub index : after .index ≡ 477
   pub minutes : after .minutes ≡ 0
-  pub now : after .now ≡ before .now
+  pub current : after .current ≡ before .current
   pub cycleMaximum : after .cycleMaximum ≡ before .cycleMaximum
   pub lifeMaximum : after .lifeMaximum ≡ before .lifeMaximum
 
 pub interval-empties : (d : Device) → Emptied (d .thermal) (afterFeature logInterval d .thermal)
 unfolding historyEmptied
-interval-empties d = record { history = refl; index = refl; minutes = refl; now = refl; cycleMaximum = refl; lifeMaximum = refl }
+interval-empties d = record { history = refl; index = refl; minutes = refl; current = refl; cycleMaximum = refl; lifeMaximum = refl }
 
 -- .. and nothing else of the device
 pub interval-keeps : (d : Device) → afterFeature logInterval d ≡ withThermal (afterFeature logInterval d .thermal) d

@@ -94,7 +94,7 @@ unfolding sampled
 sample-logs interval sample t e = rw (le-ltb (suc (t .minutes)) interval (omega arith)) (refl, refl, refl)
 
 -- "A missing sample sets "now" missing": now is the sample, whatever it is
-pub sample-now : (interval sample : ℕ) (t : Thermal) → sampled interval sample t .now ≡ sample
+pub sample-now : (interval sample : ℕ) (t : Thermal) → sampled interval sample t .current ≡ sample
 unfolding sampled
 sample-now interval sample t = refl
 
@@ -114,7 +114,7 @@ module _ (reading : ℕ) (M : Machine) where
   abbrev after : Machine
   after = step (owner (sampleStep reading)) M .state
 
-  pub step-temperatures : (after .device .thermal .now ≡ reading)
+  pub step-temperatures : (after .device .thermal .current ≡ reading)
       × (after .device .thermal .cycleMaximum ≡ newMaximum reading (before .cycleMaximum))
       × (after .device .thermal .lifeMaximum ≡ newMaximum reading (before .lifeMaximum))
   unfolding step sampleDevice sampled

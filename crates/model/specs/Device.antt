@@ -41,7 +41,7 @@ pub record Settings : Type 0 where
 -- Temperatures now, the highest of this power cycle and of the device's life; the history, the index of its
 -- newest reading, and the minutes counted towards the next one.
 pub record Thermal : Type 0 where
-  pub now : ℕ
+  pub current : ℕ
   pub cycleMaximum : ℕ
   pub lifeMaximum : ℕ
   pub history : List ℕ

@@ -31,7 +31,7 @@ fresh = powerOn (blank 64)
 -- a fresh device whose temperatures are all n
 abbrev pub withMaximum : ℕ → Device
 withMaximum n =
-    withThermal (record { now = n; cycleMaximum = n; lifeMaximum = n; history = emptyHistory; index = 477; minutes = 0 }) fresh
+    withThermal (record { current = n; cycleMaximum = n; lifeMaximum = n; history = emptyHistory; index = 477; minutes = 0 }) fresh
 
 pub data Example : Type 0 where
   key : List Field → Example

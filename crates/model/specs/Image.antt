@@ -281,7 +281,7 @@ abbrev pub powerOnThermal : Saved → Thermal
 powerOnThermal s =
     let sameInterval = eqb (kept (s .logInterval) .state) (s .logInterval .state) in
     record {
-      now = missing;
+      current = missing;
       cycleMaximum = missing;
       lifeMaximum = s .lifeMaximum;
       history = if sameInterval then s .history else emptyHistory;

@@ -28,7 +28,7 @@ statusCommand c = (14, 2, c .code) ∷ (16, 2, c .action) ∷ (18, 2, c .functio
 
 -- "temperatures at 200 (now), 202 (this power cycle), 204 (life)"
 abbrev pub statusTemperatures : Thermal → List Field
-statusTemperatures t = (200, 1, t .now) ∷ (202, 1, t .cycleMaximum) ∷ (204, 1, t .lifeMaximum) ∷ []
+statusTemperatures t = (200, 1, t .current) ∷ (202, 1, t .cycleMaximum) ∷ (204, 1, t .lifeMaximum) ∷ []
 
 abbrev pub statusFields : Device → List Field
 statusFields d = statusHead (d .initialized) (d .command .fill) ++ (statusCommand (d .command) ++ statusTemperatures (d .thermal))

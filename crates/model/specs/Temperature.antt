@@ -32,7 +32,7 @@ nextIndex index = if eqb (suc index) historySize then 0 else suc index
 unfoldable pub sampled : ℕ → ℕ → Thermal → Thermal
 sampled interval sample t =
     record {
-      now = sample;
+      current = sample;
       cycleMaximum = newMaximum sample (t .cycleMaximum);
       lifeMaximum = newMaximum sample (t .lifeMaximum);
       history = if counting then t .history else set (t .history) (nextIndex (t .index)) sample;
@@ -53,7 +53,7 @@ emptyIndex = 477
 unfoldable pub historyEmptied : Thermal → Thermal
 historyEmptied t =
     record {
-      now = t .now;
+      current = t .current;
       cycleMaximum = t .cycleMaximum;
       lifeMaximum = t .lifeMaximum;
       history = emptyHistory;

@@ -75,7 +75,7 @@ pub record ThermalValid (interval : ℕ) (t : Thermal) : Type 0 where
   pub indexValid : t .index < historySize
   pub whole : length (t .history) ≡ historySize
   pub readings : Bytes (t .history)
-  pub bytes : (t .now < 256) × (t .cycleMaximum < 256) × (t .lifeMaximum < 256)
+  pub bytes : (t .current < 256) × (t .cycleMaximum < 256) × (t .lifeMaximum < 256)
 
 pub record Valid (d : Device) : Type 0 where
   -- "1 ≤ V ≤ N ≤ 65,536"

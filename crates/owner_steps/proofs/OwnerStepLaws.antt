@@ -11,9 +11,9 @@ use Rattle.store.specs.Record.{decode, encode}
 use Rattle.store.specs.Sound.{sound}
 use Rattle.store.specs.Entries.{ownerDone, ownerBytes, visibleChecks}
 use Rattle.record.specs.declared.device as code
-use Rattle.record.specs.Meaning.{asContents, historyOf}
-use Rattle.control.specs.Change.{Changed}
-use Rattle.control.proofs.ChangeLaws.{changed-contents}
+use Rattle.record.specs.DeviceMeaning.{asContents, historyOf}
+use Rattle.device_update.specs.Change.{Changed}
+use Rattle.device_update.proofs.ChangeLaws.{changed-contents}
 
 pub visible-passed : (r : List ℕ) (v : ℕ) {n : ℕ} → n ≡ firstFailed (visibleChecks r v) → n ≡ 0 → sound r ≡ true
 visible-passed r v e z = all-pass 5 (visibleChecks r v) (omega arith) (sym e ∙ z) .0

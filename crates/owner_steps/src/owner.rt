@@ -1,4 +1,5 @@
 // The owner's steps on the record: lock, unlock, set V, sample.
+use layout::answer;
 ghost use mathlib.Core.Path.{_≡_};
 ghost use mathlib.Core.List.{[], _∷_};
 ghost use Rattle.model.specs.Owner.{setLock};
@@ -10,12 +11,12 @@ fn put_lock(device: &mut [u8], locked: bool) -> u32
     ensures { λ n. ⌜ n ≡ ownerBytes (soundRecord (now (device .entry)) ∷ []) (setLock locked) (now (device .entry)) .answer ⌝ }
     ensures device { λ _. ⌜ now (device .exit) ≡ ownerBytes (soundRecord (now (device .entry)) ∷ []) (setLock locked) (now (device .entry)) .recordArea ⌝ }
 {
-    if !soundness::sound(device) {
-        return 4;
+    if !record_check::sound(device) {
+        return answer::BAD_RECORD;
     }
     let d = record::decode(device);
-    let e = control::set_lock(d, locked);
-    writing::write(device, e);
+    let e = device_update::set_lock(d, locked);
+    record_write::write(device, e);
     0
 }
 
@@ -37,12 +38,12 @@ pub fn unlock(device: &mut [u8]) -> u32
 fn visible_refusal(device: &[u8], v: u64) -> u32
     ensures { λ n. ⌜ n ≡ firstFailed (visibleChecks (now (device .entry)) v) ⌝ }
 {
-    if !soundness::sound(device) {
-        return 4;
+    if !record_check::sound(device) {
+        return answer::BAD_RECORD;
     }
     let native = record::native_at(device);
     if !((1 <= v) & (v <= native)) {
-        return 5;
+        return answer::BAD_VALUE;
     }
     0
 }
@@ -56,8 +57,8 @@ pub fn set_visible(device: &mut [u8], v: u64) -> u32
         return refusal;
     }
     let d = record::decode(device);
-    let e = control::set_visible(d, v);
-    writing::write(device, e);
+    let e = device_update::set_visible(d, v);
+    record_write::write(device, e);
     0
 }
 
@@ -65,9 +66,9 @@ pub fn sample(device: &mut [u8], reading: u8) -> u32
     ensures { λ n. ⌜ n ≡ sampleBytes (now (device .entry)) reading .answer ⌝ }
     ensures device { λ _. ⌜ now (device .exit) ≡ sampleBytes (now (device .entry)) reading .recordArea ⌝ }
 {
-    if !soundness::sound(device) {
-        return 4;
+    if !record_check::sound(device) {
+        return answer::BAD_RECORD;
     }
-    sampling::sample(device, reading);
+    temperature::sample(device, reading);
     0
 }

@@ -1,2 +1,2 @@
 -- What the structs say.
-pub mod Meaning
+pub mod DeviceMeaning

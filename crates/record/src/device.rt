@@ -2,7 +2,7 @@
 ghost use mathlib.Core.Path.{_≡_};
 ghost use Prim.Native.Nat.{ℕ};
 ghost use Rattle.model.specs.Image.{kept, blank, settingsOf, powerOnSettings};
-ghost use Rattle.record.specs.Meaning.{asFeature, asSettings};
+ghost use Rattle.record.specs.DeviceMeaning.{asFeature, asSettings};
 
 pub enum Stage {
     Empty,
@@ -46,18 +46,18 @@ pub struct Feature {
 
 // The recovery timers of reads and writes, in 100 ms, and the three features.
 pub struct Settings {
-    pub read: u16,
-    pub write: u16,
-    pub cache: Feature,
+    pub read_timer: u16,
+    pub write_timer: u16,
+    pub write_cache: Feature,
     pub reordering: Feature,
-    pub interval: Feature,
+    pub log_interval: Feature,
 }
 
 // The temperatures now, of this power cycle and of the device's life; the newest reading's index; the minutes counted.
 pub struct Thermal {
     pub current: u8,
-    pub cycle: u8,
-    pub life: u8,
+    pub cycle_maximum: u8,
+    pub life_maximum: u8,
     pub index: u16,
     pub minutes: u16,
 }
@@ -96,20 +96,20 @@ impl Settings {
 
     // The settings at power-on, of the timers and of the features that were saved.
     pub fn power_on(
-        read: u16,
-        write: u16,
-        cache: Feature,
+        read_timer: u16,
+        write_timer: u16,
+        write_cache: Feature,
         reordering: Feature,
-        interval: Feature,
+        log_interval: Feature,
     ) -> Settings
-        ensures { λ r. ⌜ asSettings r ≡ settingsOf read write (asFeature cache) (asFeature reordering) (asFeature interval) ⌝ }
+        ensures { λ r. ⌜ asSettings r ≡ settingsOf «read_timer» «write_timer» (asFeature «write_cache») (asFeature reordering) (asFeature «log_interval») ⌝ }
     {
         Settings {
-            read,
-            write,
-            cache: Self::kept(cache),
+            read_timer,
+            write_timer,
+            write_cache: Self::kept(write_cache),
             reordering: Self::kept(reordering),
-            interval: Self::kept(interval),
+            log_interval: Self::kept(log_interval),
         }
     }
 

@@ -8,7 +8,7 @@ pub enum Direction {
 
 // "1 (write cache) ..; 2 (reordering) ..; 3 (log interval)"
 pub enum FeatureName {
-    Cache,
+    WriteCache,
     Reordering,
-    Interval,
+    LogInterval,
 }

@@ -7,7 +7,7 @@ use Rattle.wire.specs.Layout.{Field, Fit}
 use Rattle.wire.proofs.LayoutLaws.{fit-append}
 use Rattle.store.specs.Record.{slotAt, slotFields, slotsFields}
 use Rattle.store.proofs.RecordLaws.{four-back}
-use Rattle.record.specs.Meaning.{asStage, asTransfer, stagesOf, pendingOf}
+use Rattle.record.specs.DeviceMeaning.{asStage, asTransfer, stagesOf, pendingOf}
 use Rattle.record.specs.declared.device as code
 
 -- slot i's fields; x stands for a slot past the end

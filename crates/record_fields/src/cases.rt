@@ -1,11 +1,12 @@
 // Cases as the numbers that a record holds.
+use layout::port;
 use record::Fill;
 use record::Stage;
 use record::Transfer;
 ghost use mathlib.Core.Path.{_≡_};
 ghost use Rattle.wire.specs.Choice.{bit};
 ghost use Rattle.store.specs.Record.{stageNumber, fillKind, fillFirst, fillNext, fillEnd, transferKind, transferFirst, transferEnd};
-ghost use Rattle.record.specs.Meaning.{asStage, asTransfer, asFill};
+ghost use Rattle.record.specs.DeviceMeaning.{asStage, asTransfer, asFill};
 
 pub fn bit_of(b: bool) -> u8
     ensures { λ res. ⌜ res ≡ bit b ⌝ }
@@ -17,9 +18,9 @@ pub fn stage_number(s: Stage) -> u8
     ensures { λ res. ⌜ res ≡ stageNumber (asStage s) ⌝ }
 {
     match s {
-        Stage::Empty => 0,
-        Stage::Held => 1,
-        Stage::Answered => 2,
+        Stage::Empty => port::EMPTY,
+        Stage::Held => port::HELD,
+        Stage::Answered => port::ANSWERED,
     }
 }
 
@@ -27,9 +28,9 @@ pub fn transfer_kind(t: Transfer) -> u8
     ensures { λ res. ⌜ res ≡ transferKind (asTransfer t) ⌝ }
 {
     match t {
-        Transfer::None => 0,
-        Transfer::Table => 1,
-        Transfer::FillData(_, _) => 2,
+        Transfer::None => port::NO_TRANSFER,
+        Transfer::Table => port::TABLE,
+        Transfer::FillData(_, _) => port::FILL_DATA,
     }
 }
 

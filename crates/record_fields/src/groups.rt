@@ -8,6 +8,8 @@ use crate::cases::stage_number;
 use crate::cases::transfer_end;
 use crate::cases::transfer_first;
 use crate::cases::transfer_kind;
+use layout::field;
+use layout::port;
 use record::Command;
 use record::Device;
 use record::Fill;
@@ -21,83 +23,95 @@ ghost use lib.ListN.{length};
 ghost use Rattle.wire.specs.Layout.{stores, Fit};
 ghost use Rattle.store.specs.Areas.{recordSize};
 ghost use Rattle.store.specs.Record.{sizeFields, commandFields, settingsFields, thermalFields, fillFields, slotAt, slotFields, slotsFields};
-ghost use Rattle.record.specs.Meaning.{asStage, asTransfer, asFill, asSettings, asThermal, stagesOf, pendingOf, asCommand, asDevice};
+ghost use Rattle.record.specs.DeviceMeaning.{asStage, asTransfer, asFill, asSettings, asThermal, stagesOf, pendingOf, asCommand, asDevice};
 
-pub fn put_sizes(r: &mut [u8], d: Device)
-    requires { ⌜ length (now r) ≡ recordSize ⌝ }
-    ensures { λ _. ⌜ now (r .exit) ≡ stores (sizeFields (asDevice d [])) (now (r .entry)) ⌝ }
+pub fn put_sizes(device: &mut [u8], d: Device)
+    requires { ⌜ length (now device) ≡ recordSize ⌝ }
+    ensures { λ _. ⌜ now (device .exit) ≡ stores (sizeFields (asDevice d [])) (now (device .entry)) ⌝ }
     ensures fits { λ _. ⌜ Fit (sizeFields (asDevice d [])) ⌝ }
 {
-    wire::put_u64(r, 0, d.native);
-    wire::put_u64(r, 8, d.visible);
-    wire::put_u8(r, 16, bit_of(d.locked));
-    wire::put_u8(r, 17, bit_of(d.initialized));
+    wire::put_u64(device, field::NATIVE_AT, d.native);
+    wire::put_u64(device, field::VISIBLE_AT, d.visible);
+    wire::put_u8(device, field::LOCKED_AT, bit_of(d.locked));
+    wire::put_u8(device, field::INITIALIZED_AT, bit_of(d.initialized));
 }
 
-pub fn put_command(r: &mut [u8], c: Command)
-    requires { ⌜ length (now r) ≡ recordSize ⌝ }
-    ensures { λ _. ⌜ now (r .exit) ≡ stores (commandFields (asCommand c [])) (now (r .entry)) ⌝ }
+pub fn put_command(device: &mut [u8], c: Command)
+    requires { ⌜ length (now device) ≡ recordSize ⌝ }
+    ensures { λ _. ⌜ now (device .exit) ≡ stores (commandFields (asCommand c [])) (now (device .entry)) ⌝ }
     ensures fits { λ _. ⌜ Fit (commandFields (asCommand c [])) ⌝ }
 {
     let fill = c.fill;
-    wire::put_u8(r, 18, fill_kind(fill));
-    wire::put_u16(r, 20, c.code);
-    wire::put_u16(r, 22, c.action);
-    wire::put_u16(r, 24, c.function);
+    wire::put_u8(device, field::FILL_AT, fill_kind(fill));
+    wire::put_u16(device, field::CODE_AT, c.code);
+    wire::put_u16(device, field::ACTION_AT, c.action);
+    wire::put_u16(device, field::FUNCTION_AT, c.function);
 }
 
-pub fn put_settings(r: &mut [u8], s: Settings)
-    requires { ⌜ length (now r) ≡ recordSize ⌝ }
-    ensures { λ _. ⌜ now (r .exit) ≡ stores (settingsFields (asSettings s)) (now (r .entry)) ⌝ }
+pub fn put_settings(device: &mut [u8], s: Settings)
+    requires { ⌜ length (now device) ≡ recordSize ⌝ }
+    ensures { λ _. ⌜ now (device .exit) ≡ stores (settingsFields (asSettings s)) (now (device .entry)) ⌝ }
     ensures fits { λ _. ⌜ Fit (settingsFields (asSettings s)) ⌝ }
 {
-    wire::put_u16(r, 26, s.read);
-    wire::put_u16(r, 28, s.write);
-    wire::put_u16(r, 30, s.cache.state);
-    wire::put_u16(r, 32, s.reordering.state);
-    wire::put_u8(r, 34, bit_of(s.cache.persistent));
-    wire::put_u8(r, 35, bit_of(s.reordering.persistent));
-    wire::put_u8(r, 36, bit_of(s.interval.persistent));
+    wire::put_u16(device, field::READ_TIMER_AT, s.read_timer);
+    wire::put_u16(device, field::WRITE_TIMER_AT, s.write_timer);
+    wire::put_u16(device, field::WRITE_CACHE_AT, s.write_cache.state);
+    wire::put_u16(device, field::REORDERING_AT, s.reordering.state);
+    wire::put_u8(
+        device,
+        field::WRITE_CACHE_KEPT_AT,
+        bit_of(s.write_cache.persistent),
+    );
+    wire::put_u8(
+        device,
+        field::REORDERING_KEPT_AT,
+        bit_of(s.reordering.persistent),
+    );
+    wire::put_u8(
+        device,
+        field::LOG_INTERVAL_KEPT_AT,
+        bit_of(s.log_interval.persistent),
+    );
 }
 
-pub fn put_thermal(r: &mut [u8], t: Thermal)
-    requires { ⌜ length (now r) ≡ recordSize ⌝ }
-    ensures { λ _. ⌜ now (r .exit) ≡ stores (thermalFields (asThermal t [])) (now (r .entry)) ⌝ }
+pub fn put_thermal(device: &mut [u8], t: Thermal)
+    requires { ⌜ length (now device) ≡ recordSize ⌝ }
+    ensures { λ _. ⌜ now (device .exit) ≡ stores (thermalFields (asThermal t [])) (now (device .entry)) ⌝ }
     ensures fits { λ _. ⌜ Fit (thermalFields (asThermal t [])) ⌝ }
 {
-    wire::put_u16(r, 38, t.minutes);
-    wire::put_u8(r, 40, t.current);
-    wire::put_u8(r, 41, t.cycle);
-    wire::put_u8(r, 42, t.life);
+    wire::put_u16(device, field::MINUTES_AT, t.minutes);
+    wire::put_u8(device, field::CURRENT_AT, t.current);
+    wire::put_u8(device, field::CYCLE_MAXIMUM_AT, t.cycle_maximum);
+    wire::put_u8(device, field::LIFE_MAXIMUM_AT, t.life_maximum);
 }
 
-pub fn put_fill(r: &mut [u8], f: Fill)
-    requires { ⌜ length (now r) ≡ recordSize ⌝ }
-    ensures { λ _. ⌜ now (r .exit) ≡ stores (fillFields (asFill f)) (now (r .entry)) ⌝ }
+pub fn put_fill(device: &mut [u8], f: Fill)
+    requires { ⌜ length (now device) ≡ recordSize ⌝ }
+    ensures { λ _. ⌜ now (device .exit) ≡ stores (fillFields (asFill f)) (now (device .entry)) ⌝ }
     ensures fits { λ _. ⌜ Fit (fillFields (asFill f)) ⌝ }
 {
-    wire::put_u64(r, 48, fill_first(f));
-    wire::put_u64(r, 56, fill_next(f));
-    wire::put_u64(r, 64, fill_end(f));
+    wire::put_u64(device, field::FILL_FIRST_AT, fill_first(f));
+    wire::put_u64(device, field::FILL_NEXT_AT, fill_next(f));
+    wire::put_u64(device, field::FILL_END_AT, fill_end(f));
 }
 
-fn put_slot(r: &mut [u8], i: usize, s: Slot)
-    requires { ⌜ (length (now r) ≡ recordSize) × (i < 4) ⌝ }
-    ensures { λ _. ⌜ now (r .exit) ≡ stores (slotFields (slotAt i) (asStage (s .stage)) (asTransfer (s .pending))) (now (r .entry)) ⌝ }
+fn put_slot(device: &mut [u8], i: usize, s: Slot)
+    requires { ⌜ (length (now device) ≡ recordSize) × (i < 4) ⌝ }
+    ensures { λ _. ⌜ now (device .exit) ≡ stores (slotFields (slotAt i) (asStage (s .stage)) (asTransfer (s .pending))) (now (device .entry)) ⌝ }
     ensures fits { λ _. ⌜ Fit (slotFields (slotAt i) (asStage (s .stage)) (asTransfer (s .pending))) ⌝ }
 {
-    let at = 72 + 24 * i;
+    let at = field::PORTS_AT + port::SIZE * i;
     let stage = s.stage;
     let pending = s.pending;
-    wire::put_u8(r, at, stage_number(stage));
-    wire::put_u8(r, at + 1, transfer_kind(pending));
-    wire::put_u64(r, at + 8, transfer_first(pending));
-    wire::put_u64(r, at + 16, transfer_end(pending));
+    wire::put_u8(device, at, stage_number(stage));
+    wire::put_u8(device, at + port::TRANSFER_AT, transfer_kind(pending));
+    wire::put_u64(device, at + port::FIRST_AT, transfer_first(pending));
+    wire::put_u64(device, at + port::END_AT, transfer_end(pending));
 }
 
-pub fn put_slots(r: &mut [u8], slots: [Slot; 4])
-    requires { ⌜ length (now r) ≡ recordSize ⌝ }
-    ensures { λ _. ⌜ now (r .exit) ≡ stores (slotsFields (stagesOf slots) (pendingOf slots)) (now (r .entry)) ⌝ }
+pub fn put_slots(device: &mut [u8], slots: [Slot; 4])
+    requires { ⌜ length (now device) ≡ recordSize ⌝ }
+    ensures { λ _. ⌜ now (device .exit) ≡ stores (slotsFields (stagesOf slots) (pendingOf slots)) (now (device .entry)) ⌝ }
     ensures fits { λ _. ⌜ Fit (slotsFields (stagesOf slots) (pendingOf slots)) ⌝ }
     ensures four { λ _. ⌜ length slots ≡ 4 ⌝ }
 {
@@ -105,8 +119,8 @@ pub fn put_slots(r: &mut [u8], slots: [Slot; 4])
     let b = slots[1];
     let c = slots[2];
     let d = slots[3];
-    put_slot(r, 0, a);
-    put_slot(r, 1, b);
-    put_slot(r, 2, c);
-    put_slot(r, 3, d);
+    put_slot(device, 0, a);
+    put_slot(device, 1, b);
+    put_slot(device, 2, c);
+    put_slot(device, 3, d);
 }

@@ -1,2 +1,2 @@
 -- What a reply's struct says.
-pub mod Meaning
+pub mod ReplyMeaning

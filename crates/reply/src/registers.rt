@@ -1,7 +1,8 @@
 // A reply: its registers, and the bytes that it is in the slot.
+use layout::DATA;
+use layout::REGISTERS;
+use layout::ata;
 use runs::zero_part;
-use sizes::DATA;
-use sizes::REGISTERS;
 use wire::put_u8;
 ghost use mathlib.Core.Path.{_≡_};
 ghost use Prim.Native.Nat.{_+_, _≤_};
@@ -10,7 +11,10 @@ ghost use lib.ListN.{length};
 ghost use lib.Seq.{sets};
 ghost use Rattle.model.specs.Sizes.{mailboxSize};
 ghost use Rattle.model.specs.Registers.{good, refused, refusedWith, registersBytes, replyBytes};
-ghost use Rattle.reply.specs.Meaning.{asRegisters};
+ghost use Rattle.reply.specs.ReplyMeaning.{asRegisters};
+
+// What a byte counts up to: the value's low and high byte stand in two registers.
+const BYTE: u16 = 256;
 
 // `value` stands in Sector Count (low) and LBA Low (high), `sectors` in LBA Mid.
 pub struct Reply {
@@ -25,7 +29,7 @@ pub fn good(value: u16, sectors: u8) -> Reply
     ensures { λ r. ⌜ asRegisters r ≡ good value sectors ⌝ }
 {
     Reply {
-        status: 0x50,
+        status: ata::STATUS_GOOD,
         error: 0,
         value,
         sectors,
@@ -37,7 +41,7 @@ pub fn refused(error: u8) -> Reply
     ensures { λ r. ⌜ asRegisters r ≡ refused error ⌝ }
 {
     Reply {
-        status: 0x51,
+        status: ata::STATUS_REFUSED,
         error,
         value: 0,
         sectors: 0,
@@ -49,8 +53,8 @@ pub fn refused_with(code: u16) -> Reply
     ensures { λ r. ⌜ asRegisters r ≡ refusedWith code ⌝ }
 {
     Reply {
-        status: 0x51,
-        error: 0x04,
+        status: ata::STATUS_REFUSED,
+        error: ata::ERROR_ABORTED,
         value: code,
         sectors: 0,
     }
@@ -62,11 +66,11 @@ pub fn put_registers(area: &mut [u8], at: usize, r: Reply)
     ensures { λ _. ⌜ now (area .exit) ≡ sets (now (area .entry)) at (registersBytes (asRegisters r)) ⌝ }
 {
     zero_part(area, at, REGISTERS);
-    put_u8(area, at + 2, (r.value % 256) as u8);
-    put_u8(area, at + 4, (r.value / 256) as u8);
-    put_u8(area, at + 6, r.sectors);
-    put_u8(area, at + 12, r.status);
-    put_u8(area, at + 13, r.error);
+    put_u8(area, at + ata::COUNT_AT, (r.value % BYTE) as u8);
+    put_u8(area, at + ata::LBA_LOW_AT, (r.value / BYTE) as u8);
+    put_u8(area, at + ata::LBA_MID_AT, r.sectors);
+    put_u8(area, at + ata::STATUS_AT, r.status);
+    put_u8(area, at + ata::ERROR_AT, r.error);
 }
 
 // Writes a reply without data. ".. and the sector is zeros unless data is returned."

@@ -1,2 +1,2 @@
 -- Laws of what is read from a slot.
-pub mod SlotLaws
+pub mod RequestBytes

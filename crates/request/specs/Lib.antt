@@ -1,2 +1,2 @@
 -- What a request of the code says.
-pub mod Meaning
+pub mod RequestMeaning

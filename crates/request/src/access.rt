@@ -1,11 +1,13 @@
 // The checks of a data transfer (E1h) and of one sector's access (24h and 34h).
+use layout::ata;
+use layout::sct;
 use record::Direction;
 use record::Transfer;
 ghost use mathlib.Core.Path.{_≡_};
 ghost use Rattle.wire.specs.Choice.{firstFailed};
 ghost use Rattle.model.specs.Device.{Device};
 ghost use Rattle.model.specs.Decide.{moves, sectorsOf, dataChecks, sectorChecks};
-ghost use Rattle.record.specs.Meaning.{asTransfer, asDirection};
+ghost use Rattle.record.specs.DeviceMeaning.{asTransfer, asDirection};
 
 // Whether the pending transfer goes in this direction: the table is read, a fill's sector written.
 fn moves(dir: Direction, pending: Transfer) -> bool
@@ -40,13 +42,13 @@ pub fn data_code(locked: bool, dir: Direction, count: u16, pending: Transfer) ->
     ensures { λ r. ⌜ r ≡ firstFailed (dataChecks locked (asDirection dir) count (asTransfer pending)) ⌝ }
 {
     if locked {
-        return 0x0012;
+        return sct::LOCKED;
     }
     if !moves(dir, pending) {
-        return 0x000B;
+        return sct::NO_TRANSFER;
     }
     if count != sectors_of(pending) {
-        return 0x0003;
+        return sct::COUNT_OVERFLOW;
     }
     0
 }
@@ -56,13 +58,13 @@ pub fn sector_error(locked: bool, visible: u64, count: u16, lba: u64) -> u8
     ensures { λ r. ⌜ ((d : Device) → d .locked ≡ locked → d .visible ≡ visible → r ≡ firstFailed (sectorChecks d count lba)) ⌝ }
 {
     if locked {
-        return 0x04;
+        return ata::ERROR_ABORTED;
     }
     if count != 1 {
-        return 0x04;
+        return ata::ERROR_ABORTED;
     }
     if lba >= visible {
-        return 0x10;
+        return ata::ERROR_NOT_FOUND;
     }
     0
 }

@@ -1,4 +1,5 @@
 // The request that a slot's registers are.
+use layout::ata;
 use record::Direction;
 use wire::u8_at;
 use wire::u16_at;
@@ -9,8 +10,8 @@ ghost use lib.ListN.{length};
 ghost use Rattle.wire.specs.Parts.{part};
 ghost use Rattle.model.specs.Sizes.{mailboxSize};
 ghost use Rattle.model.specs.Registers.{features, count8, count16, lbaLow, lbaMid, lbaHigh, lba48, sectorAccess, control, logPage, smartLog, logExt, requestOf};
-ghost use Rattle.record.specs.Meaning.{asDirection};
-ghost use Rattle.request.specs.Meaning.{asRequest};
+ghost use Rattle.record.specs.DeviceMeaning.{asDirection};
+ghost use Rattle.request.specs.RequestMeaning.{asRequest};
 
 // Data is E1h, with its sector count; Sector is 24h or 34h, with its sector count and its LBA. Other is "All else, and E0h with another count".
 pub enum Request {
@@ -35,13 +36,13 @@ fn control(dir: Direction) -> Request
 fn log_page(dir: Direction, page: u8, count: u16) -> Request
     ensures { λ r. ⌜ asRequest r ≡ logPage (asDirection dir) page count ⌝ }
 {
-    if page == 0xE0 {
+    if page == ata::SCT_STATUS_LOG {
         if count == 1 {
             return control(dir);
         }
         return Request::Other;
     }
-    if page == 0xE1 {
+    if page == ata::SCT_DATA_LOG {
         return Request::Data(dir, count);
     }
     Request::Other
@@ -51,16 +52,16 @@ fn log_page(dir: Direction, page: u8, count: u16) -> Request
 fn smart_page(feature: u8, count: u8, page: u8, mid: u8, high: u8) -> Request
     ensures { λ r. ⌜ ((m : List ℕ) → features m ≡ feature → count8 m ≡ count → lbaLow m ≡ page → lbaMid m ≡ mid → lbaHigh m ≡ high → asRequest r ≡ smartLog m) ⌝ }
 {
-    if mid != 0x4F {
+    if mid != ata::SMART_LBA_MID {
         return Request::Other;
     }
-    if high != 0xC2 {
+    if high != ata::SMART_LBA_HIGH {
         return Request::Other;
     }
-    if feature == 0xD5 {
+    if feature == ata::SMART_READ_LOG {
         return log_page(Direction::Read, page, count as u16);
     }
-    if feature == 0xD6 {
+    if feature == ata::SMART_WRITE_LOG {
         return log_page(Direction::Write, page, count as u16);
     }
     Request::Other
@@ -72,10 +73,10 @@ fn smart_log(area: &[u8], at: usize) -> Request
     ensures { λ r. ⌜ asRequest r ≡ smartLog (part (now (area .entry)) at mailboxSize) ⌝ }
 {
     let feature = u8_at(area, at);
-    let count = u8_at(area, at + 2);
-    let page = u8_at(area, at + 4);
-    let mid = u8_at(area, at + 6);
-    let high = u8_at(area, at + 8);
+    let count = u8_at(area, at + ata::COUNT_AT);
+    let page = u8_at(area, at + ata::LBA_LOW_AT);
+    let mid = u8_at(area, at + ata::LBA_MID_AT);
+    let high = u8_at(area, at + ata::LBA_HIGH_AT);
     smart_page(feature, count, page, mid, high)
 }
 
@@ -84,17 +85,28 @@ fn log_ext(dir: Direction, area: &[u8], at: usize) -> Request
     requires { ⌜ at + mailboxSize ≤ length (now area) ⌝ }
     ensures { λ r. ⌜ asRequest r ≡ logExt (asDirection dir) (part (now (area .entry)) at mailboxSize) ⌝ }
 {
-    if u16_at(area, at + 6) != 0 {
+    if u16_at(area, at + ata::LBA_MID_AT) != 0 {
         return Request::Other;
     }
-    log_page(dir, u8_at(area, at + 4), u16_at(area, at + 2))
+    log_page(
+        dir,
+        u8_at(area, at + ata::LBA_LOW_AT),
+        u16_at(area, at + ata::COUNT_AT),
+    )
 }
+
+// What one, two and three bytes count up to.
+const BYTE: u64 = 256;
+
+const TWO_BYTES: u64 = 65536;
+
+const THREE_BYTES: u64 = 16777216;
 
 // The number of three bytes, the low one first.
 fn join24(a: u8, b: u8, c: u8) -> u64
     ensures { λ r. ⌜ r ≡ a + 256 * b + 65536 * c ⌝ }
 {
-    a as u64 + 256 * (b as u64) + 65536 * (c as u64)
+    a as u64 + BYTE * (b as u64) + TWO_BYTES * (c as u64)
 }
 
 // "the 48-bit LBA, previous bytes giving bits 24 to 47 (document 004)"
@@ -103,16 +115,16 @@ fn lba48(area: &[u8], at: usize) -> u64
     ensures { λ r. ⌜ r ≡ lba48 (part (now (area .entry)) at mailboxSize) ⌝ }
 {
     let current = join24(
-        u8_at(area, at + 4),
-        u8_at(area, at + 6),
-        u8_at(area, at + 8),
+        u8_at(area, at + ata::LBA_LOW_AT),
+        u8_at(area, at + ata::LBA_MID_AT),
+        u8_at(area, at + ata::LBA_HIGH_AT),
     );
     let previous = join24(
-        u8_at(area, at + 5),
-        u8_at(area, at + 7),
-        u8_at(area, at + 9),
+        u8_at(area, at + ata::LBA_LOW_PREVIOUS_AT),
+        u8_at(area, at + ata::LBA_MID_PREVIOUS_AT),
+        u8_at(area, at + ata::LBA_HIGH_PREVIOUS_AT),
     );
-    current + 16777216 * previous
+    current + THREE_BYTES * previous
 }
 
 // "24h and 34h: read or write one sector at the 48-bit LBA", with the Sector Count in 16 bits.
@@ -120,7 +132,7 @@ fn sector(dir: Direction, area: &[u8], at: usize) -> Request
     requires { ⌜ at + mailboxSize ≤ length (now area) ⌝ }
     ensures { λ r. ⌜ asRequest r ≡ sectorAccess (asDirection dir) (count16 (part (now (area .entry)) at mailboxSize)) (lba48 (part (now (area .entry)) at mailboxSize)) ⌝ }
 {
-    let count = u16_at(area, at + 2);
+    let count = u16_at(area, at + ata::COUNT_AT);
     let lba = lba48(area, at);
     Request::Sector(dir, count, lba)
 }
@@ -130,20 +142,20 @@ pub fn request_of(area: &[u8], at: usize) -> Request
     requires { ⌜ at + mailboxSize ≤ length (now area) ⌝ }
     ensures { λ r. ⌜ asRequest r ≡ requestOf (part (now (area .entry)) at mailboxSize) ⌝ }
 {
-    let command = u8_at(area, at + 11);
-    if command == 0xB0 {
+    let command = u8_at(area, at + ata::COMMAND_AT);
+    if command == ata::SMART {
         return smart_log(area, at);
     }
-    if command == 0x2F {
+    if command == ata::READ_LOG_EXT {
         return log_ext(Direction::Read, area, at);
     }
-    if command == 0x3F {
+    if command == ata::WRITE_LOG_EXT {
         return log_ext(Direction::Write, area, at);
     }
-    if command == 0x24 {
+    if command == ata::READ_SECTORS_EXT {
         return sector(Direction::Read, area, at);
     }
-    if command == 0x34 {
+    if command == ata::WRITE_SECTORS_EXT {
         return sector(Direction::Write, area, at);
     }
     Request::Other

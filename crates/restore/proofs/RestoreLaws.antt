@@ -22,12 +22,12 @@ use Rattle.model.proofs.ImageLaws.{readable-parts, newest-at}
 use Rattle.store.specs.Areas.{headSize}
 use Rattle.store.specs.Record.{Stage, empty, encode}
 use Rattle.store.specs.Entries.{restoredContents}
-use Rattle.record.specs.Meaning.{historyOf}
-use Rattle.writing.specs.Framed.{Framed}
-use Rattle.writing.specs.Blank.{blankRecord}
-use Rattle.writing.proofs.FramedLaws.{history-stored}
-use Rattle.writing.proofs.BlankLaws.{blank-framed, blank-history}
-use Rattle.image.proofs.RefusalLaws.{read-readable, read-entry}
+use Rattle.record.specs.DeviceMeaning.{historyOf}
+use Rattle.record_write.specs.Framed.{Framed}
+use Rattle.record_write.specs.Blank.{blankRecord}
+use Rattle.record_write.proofs.FramedLaws.{history-stored}
+use Rattle.record_write.proofs.BlankLaws.{blank-framed, blank-history}
+use Rattle.image.proofs.ImageAnswers.{read-readable, read-entry}
 
 -- a device with these values, and all else as power-on leaves it
 abbrev pub poweredDevice : ℕ → ℕ → Bool → ℕ → Settings → ℕ → List ℕ → Device
@@ -39,7 +39,7 @@ poweredDevice native visible initialized life settings index history =
       initialized = initialized;
       command = record { code = 0; action = 0; function = 0; fill = idle; pending = nothingPending };
       settings = settings;
-      thermal = record { now = missing; cycleMaximum = missing; lifeMaximum = life; history = history; index = index; minutes = 0 };
+      thermal = record { current = missing; cycleMaximum = missing; lifeMaximum = life; history = history; index = index; minutes = 0 };
     }
 
 pub powered-is : (s : Saved) (native visible : ℕ) (initialized : Bool) (life : ℕ) (settings : Settings) (index : ℕ)

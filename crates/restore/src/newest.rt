@@ -1,4 +1,10 @@
 // What power-on restores: the device of the newest entry, or of an empty image.
+use layout::EMPTY_INDEX;
+use layout::ENTRY;
+use layout::HISTORY;
+use layout::MISSING;
+use layout::entry;
+use layout::table;
 use record::Command;
 use record::Device;
 use record::Feature;
@@ -8,12 +14,6 @@ use record::Slot;
 use record::Stage;
 use record::Thermal;
 use record::Transfer;
-use sizes::EMPTY_INDEX;
-use sizes::ENTRY;
-use sizes::HISTORY;
-use sizes::MISSING;
-use sizes::entry;
-use sizes::table;
 ghost use mathlib.Core.Path.{_≡_};
 ghost use Prim.Native.Nat.{_+_, _≤_};
 ghost use lib.ListN.{length, replicate};
@@ -26,7 +26,7 @@ ghost use Rattle.model.specs.Image.{Saved, hasBit, savedAt, imageChecks, blank,
 ghost use Rattle.store.specs.Areas.{headSize, recordSize};
 ghost use Rattle.store.specs.Record.{empty, encode};
 ghost use Rattle.store.specs.Entries.{restoredContents};
-ghost use Rattle.record.specs.Meaning.{asSettings, asDevice, stagesOf};
+ghost use Rattle.record.specs.DeviceMeaning.{asSettings, asDevice, stagesOf};
 
 // Whether the bit of a weight (1, 2, 4 ..) is 1 in a byte.
 fn has_bit(weight: u8, byte: u8) -> bool
@@ -42,24 +42,24 @@ fn saved_settings(image: &[u8], at: usize) -> Settings
     ensures { λ r. ⌜ asSettings r ≡ powerOnSettings (savedAt (now (image .entry)) at) ⌝ }
 {
     let options = wire::u8_at(image, at + entry::OPTIONS_AT);
-    let cache = Feature {
+    let write_cache = Feature {
         state: wire::u16_at(image, at + entry::CACHE_AT),
-        persistent: has_bit(1, options),
+        persistent: has_bit(entry::WRITE_CACHE_OPTION, options),
     };
     let reordering = Feature {
         state: wire::u16_at(image, at + entry::REORDERING_AT),
-        persistent: has_bit(2, options),
+        persistent: has_bit(entry::REORDERING_OPTION, options),
     };
-    let interval = Feature {
+    let log_interval = Feature {
         state: wire::u16_at(image, at + entry::INTERVAL_AT),
-        persistent: has_bit(4, options),
+        persistent: has_bit(entry::LOG_INTERVAL_OPTION, options),
     };
     Settings::power_on(
         Settings::POWER_ON_TIMER,
         Settings::POWER_ON_TIMER,
-        cache,
+        write_cache,
         reordering,
-        interval,
+        log_interval,
     )
 }
 
@@ -93,8 +93,8 @@ fn powered(
         settings,
         thermal: Thermal {
             current: MISSING,
-            cycle: MISSING,
-            life,
+            cycle_maximum: MISSING,
+            life_maximum: life,
             index,
             minutes: 0,
         },
@@ -134,19 +134,19 @@ fn saved_device(image: &[u8], at: usize) -> Device
     let initialized = wire::u8_at(image, at + entry::FLAG_AT) == 1;
     let life = wire::u8_at(image, at + entry::LIFE_AT);
     let settings = saved_settings(image, at);
-    let interval = settings.interval.state;
+    let interval = settings.log_interval.state;
     let index = kept_index(image, at, interval);
     powered(native, visible, initialized, life, settings, index)
 }
 
 // Copies the history of the entry at `at` into the record, where the interval is still its own.
-fn put_history(r: &mut [u8], image: &[u8], at: usize, interval: u16)
-    requires { ⌜ (length (now r) ≡ recordSize) × (at + bodySize ≤ length (now image)) ⌝ }
-    ensures { λ _. ⌜ now (r .exit) ≡ (if eqb interval (savedAt (now (image .entry)) at .logInterval .state) then sets (now (r .entry)) (headSize + tableHeadSize) (savedAt (now (image .entry)) at .history) else now (r .entry)) ⌝ }
+fn put_history(device: &mut [u8], image: &[u8], at: usize, interval: u16)
+    requires { ⌜ (length (now device) ≡ recordSize) × (at + bodySize ≤ length (now image)) ⌝ }
+    ensures { λ _. ⌜ now (device .exit) ≡ (if eqb interval (savedAt (now (image .entry)) at .logInterval .state) then sets (now (device .entry)) (headSize + tableHeadSize) (savedAt (now (image .entry)) at .history) else now (device .entry)) ⌝ }
 {
     if interval == wire::u16_at(image, at + entry::INTERVAL_AT) {
         runs::copy_part(
-            r,
+            device,
             table::RECORD_HISTORY_AT,
             image,
             at + entry::HISTORY_AT,
@@ -156,36 +156,36 @@ fn put_history(r: &mut [u8], image: &[u8], at: usize, interval: u16)
 }
 
 // The record of an empty image's device.
-fn restore_blank(r: &mut [u8], native: u64)
-    requires { ⌜ length (now r) ≡ recordSize ⌝ }
-    ensures { λ _. ⌜ now (r .exit) ≡ encode (restoredContents (blank native)) ⌝ }
+fn restore_blank(device: &mut [u8], native: u64)
+    requires { ⌜ length (now device) ≡ recordSize ⌝ }
+    ensures { λ _. ⌜ now (device .exit) ≡ encode (restoredContents (blank native)) ⌝ }
 {
     let d = blank_device(native);
-    writing::frame(r);
-    writing::write(r, d);
+    record_write::frame(device);
+    record_write::write(device, d);
 }
 
 // The record of the device of the entry at `at`.
-fn restore_entry(r: &mut [u8], image: &[u8], at: usize)
-    requires { ⌜ (length (now r) ≡ recordSize) × (at + bodySize ≤ length (now image)) ⌝ }
-    ensures { λ _. ⌜ now (r .exit) ≡ encode (restoredContents (savedAt (now (image .entry)) at)) ⌝ }
+fn restore_entry(device: &mut [u8], image: &[u8], at: usize)
+    requires { ⌜ (length (now device) ≡ recordSize) × (at + bodySize ≤ length (now image)) ⌝ }
+    ensures { λ _. ⌜ now (device .exit) ≡ encode (restoredContents (savedAt (now (image .entry)) at)) ⌝ }
 {
     let d = saved_device(image, at);
-    let interval = d.settings.interval.state;
-    writing::frame(r);
-    put_history(r, image, at, interval);
-    writing::write(r, d);
+    let interval = d.settings.log_interval.state;
+    record_write::frame(device);
+    put_history(device, image, at, interval);
+    record_write::write(device, d);
 }
 
 // The record after a power-on from this image, on a disk of `native` sectors.
-pub fn put_restored(r: &mut [u8], native: u64, image: &[u8], used: usize)
-    requires { ⌜ length (now r) ≡ recordSize ⌝ }
+pub fn put_restored(device: &mut [u8], native: u64, image: &[u8], used: usize)
+    requires { ⌜ length (now device) ≡ recordSize ⌝ }
     requires readable { ⌜ firstFailed (imageChecks native (now image) used) ≡ 0 ⌝ }
-    ensures { λ _. ⌜ now (r .exit) ≡ encode (restoredContents (restored native (now (image .entry)) used)) ⌝ }
+    ensures { λ _. ⌜ now (device .exit) ≡ encode (restoredContents (restored native (now (image .entry)) used)) ⌝ }
 {
     if used == 0 {
-        restore_blank(r, native);
+        restore_blank(device, native);
     } else {
-        restore_entry(r, image, used - ENTRY);
+        restore_entry(device, image, used - ENTRY);
     }
 }

@@ -80,6 +80,9 @@ pub fn same_part(a: &[u8], at: usize, b: &[u8], from: usize, n: usize) -> bool
     all
 }
 
+// The bytes of a u32.
+const WORD: usize = 4;
+
 // Writes the four bytes from `from` so many times, one behind the other, from `to`.
 pub fn repeat_within(s: &mut [u8], to: usize, from: usize, times: usize)
     requires { ⌜ (from + 4 ≤ to) × (to + 4 * times ≤ length (now s)) ⌝ }
@@ -88,7 +91,7 @@ pub fn repeat_within(s: &mut [u8], to: usize, from: usize, times: usize)
     let word = u32_at(s, from);
     let mut k = 0;
     while k < times {
-        put_u32(s, to + 4 * k, word);
+        put_u32(s, to + WORD * k, word);
         k += 1;
     }
 }

@@ -1,2 +1,2 @@
 -- Laws of what a save stores.
-pub mod SaveLaws
+pub mod AppendLaws

@@ -1,13 +1,14 @@
 // A save: one entry, from the record's bytes.
 use image::TAG;
 use image::previous_place;
-use sizes::BODY;
-use sizes::BODY_U32;
-use sizes::ENTRY;
-use sizes::SECTOR;
-use sizes::TABLE_AT;
-use sizes::entry;
-use sizes::table;
+use layout::BODY;
+use layout::BODY_U32;
+use layout::ENTRY;
+use layout::SECTOR;
+use layout::TABLE_AT;
+use layout::entry;
+use layout::field;
+use layout::table;
 ghost use mathlib.Core.Path.{_≡_};
 ghost use mathlib.Core.Bool.{true};
 ghost use Prim.Native.Nat.{_+_, _*_, _/_, _≤_, _<_};
@@ -33,61 +34,87 @@ fn put_trailer(image: &mut [u8], at: usize, number: u32)
     wire::put_u32(image, at, BODY_U32);
     wire::put_u32(image, at + entry::LINK_AT, previous_place(number));
     wire::put_u32(image, at + entry::NUMBER_AT, number);
-    runs::copy_part(image, at + entry::TAG_AT, &letters, 0, 4);
+    runs::copy_part(image, at + entry::TAG_AT, &letters, 0, entry::TAG);
 }
 
 // The flag in the record's byte at `at`, as 0 or 1.
-fn flag_bit(r: &[u8], at: usize) -> u8
-    requires { ⌜ at + 1 ≤ length (now r) ⌝ }
-    ensures { λ res. ⌜ res ≡ bit (flagOf (get 1 (now (r .entry)) at)) ⌝ }
+fn flag_bit(device: &[u8], at: usize) -> u8
+    requires { ⌜ at + 1 ≤ length (now device) ⌝ }
+    ensures { λ res. ⌜ res ≡ bit (flagOf (get 1 (now (device .entry)) at)) ⌝ }
     ensures small { λ res. ⌜ res ≤ 1 ⌝ }
 {
-    if wire::u8_at(r, at) == 1 { 1 } else { 0 }
+    if wire::u8_at(device, at) == 1 { 1 } else { 0 }
 }
 
 // "kept marks in bits 0 to 2 of byte 24"
-fn options(r: &[u8]) -> u8
-    requires { ⌜ length (now r) ≡ recordSize ⌝ }
-    ensures { λ res. ⌜ res ≡ bit (flagOf (get 1 (now (r .entry)) 34)) + 2 * bit (flagOf (get 1 (now (r .entry)) 35)) + 4 * bit (flagOf (get 1 (now (r .entry)) 36)) ⌝ }
+fn options(device: &[u8]) -> u8
+    requires { ⌜ length (now device) ≡ recordSize ⌝ }
+    ensures { λ res. ⌜ res ≡ bit (flagOf (get 1 (now (device .entry)) 34)) + 2 * bit (flagOf (get 1 (now (device .entry)) 35)) + 4 * bit (flagOf (get 1 (now (device .entry)) 36)) ⌝ }
 {
-    flag_bit(r, 34) + 2 * flag_bit(r, 35) + 4 * flag_bit(r, 36)
+    flag_bit(device, field::WRITE_CACHE_KEPT_AT)
+        + entry::REORDERING_OPTION * flag_bit(device, field::REORDERING_KEPT_AT)
+        + entry::LOG_INTERVAL_OPTION * flag_bit(device, field::LOG_INTERVAL_KEPT_AT)
 }
 
 // Clears the head of a body at `at`, and writes N, V, the flag and the life maximum.
-fn put_sizes(image: &mut [u8], at: usize, r: &[u8])
-    requires { ⌜ (at + headSize ≤ length (now image)) × (length (now r) ≡ recordSize) ⌝ }
-    ensures { λ _. ⌜ now (image .exit) ≡ stores (placed at (sizesOf (savedFrom (decode (now (r .entry)) .device)))) (sets (now (image .entry)) at (zeros headSize)) ⌝ }
+fn put_sizes(image: &mut [u8], at: usize, device: &[u8])
+    requires { ⌜ (at + headSize ≤ length (now image)) × (length (now device) ≡ recordSize) ⌝ }
+    ensures { λ _. ⌜ now (image .exit) ≡ stores (placed at (sizesOf (savedFrom (decode (now (device .entry)) .device)))) (sets (now (image .entry)) at (zeros headSize)) ⌝ }
 {
     runs::zero_part(image, at, entry::TABLE_AT);
-    wire::put_u64(image, at + entry::NATIVE_AT, wire::u64_at(r, 0));
-    wire::put_u64(image, at + entry::VISIBLE_AT, wire::u64_at(r, 8));
-    wire::put_u8(image, at + entry::FLAG_AT, flag_bit(r, 17));
-    wire::put_u8(image, at + entry::LIFE_AT, wire::u8_at(r, 42));
+    wire::put_u64(
+        image,
+        at + entry::NATIVE_AT,
+        wire::u64_at(device, field::NATIVE_AT),
+    );
+    wire::put_u64(
+        image,
+        at + entry::VISIBLE_AT,
+        wire::u64_at(device, field::VISIBLE_AT),
+    );
+    wire::put_u8(
+        image,
+        at + entry::FLAG_AT,
+        flag_bit(device, field::INITIALIZED_AT),
+    );
+    wire::put_u8(
+        image,
+        at + entry::LIFE_AT,
+        wire::u8_at(device, field::LIFE_MAXIMUM_AT),
+    );
 }
 
 // Writes the features of a body at `at`, and their marks.
-fn put_features(image: &mut [u8], at: usize, r: &[u8])
-    requires { ⌜ (at + headSize ≤ length (now image)) × (length (now r) ≡ recordSize) ⌝ }
-    ensures { λ _. ⌜ now (image .exit) ≡ stores (placed at (featuresOf (savedFrom (decode (now (r .entry)) .device)))) (now (image .entry)) ⌝ }
+fn put_features(image: &mut [u8], at: usize, device: &[u8])
+    requires { ⌜ (at + headSize ≤ length (now image)) × (length (now device) ≡ recordSize) ⌝ }
+    ensures { λ _. ⌜ now (image .exit) ≡ stores (placed at (featuresOf (savedFrom (decode (now (device .entry)) .device)))) (now (image .entry)) ⌝ }
 {
-    wire::put_u16(image, at + entry::CACHE_AT, wire::u16_at(r, 30));
-    wire::put_u16(image, at + entry::REORDERING_AT, wire::u16_at(r, 32));
+    wire::put_u16(
+        image,
+        at + entry::CACHE_AT,
+        wire::u16_at(device, field::WRITE_CACHE_AT),
+    );
+    wire::put_u16(
+        image,
+        at + entry::REORDERING_AT,
+        wire::u16_at(device, field::REORDERING_AT),
+    );
     wire::put_u16(
         image,
         at + entry::INTERVAL_AT,
-        wire::u16_at(r, table::RECORD_INTERVAL_AT),
+        wire::u16_at(device, table::RECORD_INTERVAL_AT),
     );
-    wire::put_u8(image, at + entry::OPTIONS_AT, options(r));
+    wire::put_u8(image, at + entry::OPTIONS_AT, options(device));
 }
 
 // "A save adds one entry behind the used length; other bytes stay."
-pub fn put_entry(image: &mut [u8], used: usize, r: &[u8])
-    requires { ⌜ sound (now r) ≡ true ⌝ }
+pub fn put_entry(image: &mut [u8], used: usize, device: &[u8])
+    requires { ⌜ sound (now device) ≡ true ⌝ }
     requires room { ⌜ (used + entrySize ≤ length (now image)) × (used / entrySize < entryLimit) ⌝ }
-    ensures { λ _. ⌜ now (image .exit) ≡ savedImage (decode (now (r .entry)) .device) (now (image .entry)) used ⌝ }
+    ensures { λ _. ⌜ now (image .exit) ≡ savedImage (decode (now (device .entry)) .device) (now (image .entry)) used ⌝ }
 {
-    put_sizes(image, used, r);
-    put_features(image, used, r);
-    runs::copy_part(image, used + entry::TABLE_AT, r, TABLE_AT, SECTOR);
+    put_sizes(image, used, device);
+    put_features(image, used, device);
+    runs::copy_part(image, used + entry::TABLE_AT, device, TABLE_AT, SECTOR);
     put_trailer(image, used + BODY, (used / ENTRY) as u32 + 1);
 }

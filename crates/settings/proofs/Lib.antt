@@ -1,2 +1,2 @@
 -- Laws of the settings.
-pub mod SettingsLaws
+pub mod SettingCases

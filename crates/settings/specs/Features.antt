@@ -8,7 +8,7 @@ use Rattle.model.specs.Registers.{Direction, read, write}
 use Rattle.model.specs.Key.{FeatureName, writeCache, reordering, logInterval}
 use Rattle.model.specs.Update.{withSettings}
 use Rattle.model.specs.Decide.{withFeature, afterFeature}
-use Rattle.record.specs.Meaning.{historyAfter, asDevice, stagesOf}
+use Rattle.record.specs.DeviceMeaning.{historyAfter, asDevice, stagesOf}
 use Rattle.record.specs.declared.device as code
 
 abbrev pub isRead : Direction → Bool

@@ -1,15 +1,15 @@
 // The recovery timers and the features.
+use layout::EMPTY_INDEX;
 use record::Device;
 use record::Direction;
 use record::Feature;
 use record::FeatureName;
 use record::Settings;
-use sizes::EMPTY_INDEX;
 ghost use mathlib.Core.Path.{_≡_};
 ghost use Rattle.model.specs.Update.{withSettings};
 ghost use Rattle.model.specs.Decide.{timer, withTimer, feature, withFeature};
-ghost use Rattle.record.specs.Meaning.{asFeature, asSettings, asDirection, asFeatureName};
-ghost use Rattle.control.specs.Change.{Changed};
+ghost use Rattle.record.specs.DeviceMeaning.{asFeature, asSettings, asDirection, asFeatureName};
+ghost use Rattle.device_update.specs.Change.{Changed};
 ghost use Rattle.settings.specs.Features.{FeatureSet, isRead, isCache, isInterval};
 
 // The recovery timer of reads or of writes.
@@ -17,8 +17,8 @@ pub fn timer(dir: Direction, s: Settings) -> u16
     ensures { λ r. ⌜ r ≡ timer (asDirection dir) (asSettings s) ⌝ }
 {
     match dir {
-        Direction::Read => s.read,
-        Direction::Write => s.write,
+        Direction::Read => s.read_timer,
+        Direction::Write => s.write_timer,
     }
 }
 
@@ -36,10 +36,10 @@ fn with_timer(dir: Direction, n: u16, s: Settings) -> Settings
 {
     let mut t = s;
     if is_read(dir) {
-        t.read = n;
+        t.read_timer = n;
         return t;
     }
-    t.write = n;
+    t.write_timer = n;
     t
 }
 
@@ -59,9 +59,9 @@ pub fn feature(name: FeatureName, s: Settings) -> Feature
     ensures { λ r. ⌜ asFeature r ≡ feature (asFeatureName name) (asSettings s) ⌝ }
 {
     match name {
-        FeatureName::Cache => s.cache,
+        FeatureName::WriteCache => s.write_cache,
         FeatureName::Reordering => s.reordering,
-        FeatureName::Interval => s.interval,
+        FeatureName::LogInterval => s.log_interval,
     }
 }
 
@@ -69,9 +69,9 @@ fn is_cache(name: FeatureName) -> bool
     ensures { λ r. ⌜ r ≡ isCache (asFeatureName name) ⌝ }
 {
     match name {
-        FeatureName::Cache => true,
+        FeatureName::WriteCache => true,
         FeatureName::Reordering => false,
-        FeatureName::Interval => false,
+        FeatureName::LogInterval => false,
     }
 }
 
@@ -80,9 +80,9 @@ pub fn is_interval(name: FeatureName) -> bool
     ensures { λ r. ⌜ r ≡ isInterval (asFeatureName name) ⌝ }
 {
     match name {
-        FeatureName::Cache => false,
+        FeatureName::WriteCache => false,
         FeatureName::Reordering => false,
-        FeatureName::Interval => true,
+        FeatureName::LogInterval => true,
     }
 }
 
@@ -91,11 +91,11 @@ fn with_feature(name: FeatureName, f: Feature, s: Settings) -> Settings
 {
     let mut t = s;
     if is_cache(name) {
-        t.cache = f;
+        t.write_cache = f;
         return t;
     }
     if is_interval(name) {
-        t.interval = f;
+        t.log_interval = f;
         return t;
     }
     t.reordering = f;

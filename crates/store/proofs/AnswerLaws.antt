@@ -23,7 +23,7 @@ use Rattle.store.specs.Areas.{recordSize, privateSize}
 use Rattle.store.specs.Store.{Store, machineOf}
 use Rattle.store.specs.Entries.{powerOnChecks, powerOnBytes}
 use Rattle.store.specs.OnStore.{onStore}
-use Rattle.store.proofs.EntryLaws.{storeChecks, doneStore, doneSeen, on-refused, on-done}
+use Rattle.store.proofs.ExitLaws.{storeChecks, doneStore, doneSeen, on-refused, on-done}
 use Rattle.store.proofs.FollowLaws.{StoreValid, machine-valid}
 use Rattle.store.proofs.StepFollows.{follows}
 use Rattle.store.proofs.Condition3Holds.{power-on-answer}

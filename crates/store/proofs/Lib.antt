@@ -2,10 +2,10 @@
 pub mod RecordLaws
 pub mod SoundLaws
 pub mod TableInPlace
-pub mod InPlaceLaws
+pub mod RecordTestLaws
 pub mod WrittenLaws
 pub mod StageLaws
-pub mod EntryLaws
+pub mod ExitLaws
 pub mod FollowLaws
 pub mod StepFollows
 pub mod Condition3Holds

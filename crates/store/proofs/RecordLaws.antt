@@ -320,7 +320,7 @@ module _ (c : Contents) (v : ContentsFit c) where
                   };
               thermal =
                   record {
-                    now = thermal .1 .0 j;
+                    current = thermal .1 .0 j;
                     cycleMaximum = thermal .1 .1 .0 j;
                     lifeMaximum = thermal .1 .1 .1 .0 j;
                     history = history-read c v j;

@@ -21,7 +21,7 @@ use Rattle.store.specs.Store.{Store}
 use Rattle.store.specs.Entries.{powerOnChecks, restoredContents, poweredContents, powerOnBytes}
 use Rattle.store.specs.OnStore.{onStore}
 use Rattle.store.proofs.RecordLaws.{ContentsValid, valid-fits, decode-encode}
-use Rattle.store.proofs.EntryLaws.{storeChecks, on-done}
+use Rattle.store.proofs.ExitLaws.{storeChecks, on-done}
 use Rattle.store.proofs.FollowLaws.{StoreValid, contents-valid}
 use Rattle.store.proofs.Condition3Holds.{power-on-answer}
 use Rattle.store.proofs.AnswerLaws.{entry-answer, entry-order}

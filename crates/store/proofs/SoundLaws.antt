@@ -19,7 +19,7 @@ use Rattle.model.specs.Key.{highestState}
 use Rattle.model.specs.Temperature.{tableHeadSize}
 use Rattle.model.specs.Fill.{runningCode}
 use Rattle.model.specs.Valid.{FillValid, TransferValid, PendingValid, pendingCount, pendingLimit, CodeValid, CommandValid, TimerValid, SettingsValid, Valid}
-use Rattle.model.proofs.SoundLaws.{Clauses, Stored, valid-clauses, clauses-valid}
+use Rattle.model.proofs.ValidClauses.{Clauses, Stored, valid-clauses, clauses-valid}
 use Rattle.store.specs.Areas.{recordSize, headSize}
 use Rattle.store.specs.Record.{Contents, encode, decode}
 use Rattle.store.specs.Sound.{fillSound, transferSound, pendingSound, commandSound, timerSound, settingsSound, deviceSound, sound}
@@ -84,7 +84,7 @@ pub record DeviceFits (d : Device) : Type 0 where
   pub transfers : length (d .command .pending) ≡ 4
   pub history : length (d .thermal .history) ≡ historySize
   pub readings : Bytes (d .thermal .history)
-  pub temperatures : (d .thermal .now < 256) × (d .thermal .cycleMaximum < 256) × (d .thermal .lifeMaximum < 256)
+  pub temperatures : (d .thermal .current < 256) × (d .thermal .cycleMaximum < 256) × (d .thermal .lifeMaximum < 256)
 
 module _ (d : Device) where
   abbrev sizesTest : Bool

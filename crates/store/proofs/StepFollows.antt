@@ -40,7 +40,7 @@ use Rattle.store.specs.Entries.{isEmpty, isHeld, isAnswered, withStage, 
 use Rattle.store.specs.OnStore.{store, onStore}
 use Rattle.store.proofs.RecordLaws.{ContentsValid}
 use Rattle.store.proofs.SoundLaws.{sound-parts}
-use Rattle.store.proofs.EntryLaws.{storeChecks, doneStore, doneSeen, on-refused, on-done}
+use Rattle.store.proofs.ExitLaws.{storeChecks, doneStore, doneSeen, on-refused, on-done}
 use Rattle.store.proofs.FollowLaws.{StoreValid, contents-valid, machine-valid, machine-encoded, store-encoded, slot-sized, slot-fill, ports-set, ports-cleared, ports-fill}
 
 -- ---- the fill's sector

@@ -21,7 +21,7 @@ use Rattle.wire.proofs.BytesLaws.{bytes-part, all-zero-true, zero-all-true}
 use Rattle.model.specs.Sizes.{sectorSize, historySize}
 use Rattle.model.specs.Temperature.{tableVersions, tableIntervalPlace, tableLimitsPlace, tableLimits, tableZerosPlace, tableSizePlace, tableIndexPlace, tableHeadSize, tableFields, tableBytes}
 use Rattle.model.proofs.FormatLaws.{table-reads, table-at}
-use Rattle.store.specs.InPlace.{tableFixed}
+use Rattle.store.specs.RecordTests.{tableFixed}
 
 pub implied : (a b : Bool) → (not a || b) ≡ true → a ≡ true → b ≡ true
 implied true b h e = h

@@ -21,7 +21,7 @@ use Rattle.store.specs.Store.{Store, slotBytes}
 use Rattle.store.specs.Entries.{withFillSector}
 use Rattle.store.specs.OnStore.{onStore}
 use Rattle.model.proofs.ValidRequest.{decide-valid}
-use Rattle.store.proofs.EntryLaws.{storeChecks, on-done}
+use Rattle.store.proofs.ExitLaws.{storeChecks, on-done}
 use Rattle.store.proofs.FollowLaws.{StoreValid, contents-valid, slot-sized}
 use Rattle.store.proofs.StepFollows.{answer-sized}
 use Rattle.store.proofs.AnswerLaws.{entry-answer}

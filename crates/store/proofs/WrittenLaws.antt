@@ -16,10 +16,10 @@ use Rattle.model.specs.Sizes.{historySize}
 use Rattle.model.specs.Temperature.{tableIntervalPlace, tableIndexPlace, tableHeadSize, tableBytes}
 use Rattle.store.specs.Areas.{recordSize, headSize}
 use Rattle.store.specs.Record.{Contents, headFields, tableNumbers, encode, decode}
-use Rattle.store.specs.InPlace.{spareRuns, zeroRuns, tableFixed}
+use Rattle.store.specs.RecordTests.{spareRuns, zeroRuns, tableFixed}
 use Rattle.store.proofs.RecordLaws.{ContentsFit, bytes-encode, decode-encode}
 use Rattle.store.proofs.TableInPlace.{table-is}
-use Rattle.store.proofs.InPlaceLaws.{head-rest, table-half, spare-holds, fixed-holds}
+use Rattle.store.proofs.RecordTestLaws.{head-rest, table-half, spare-holds, fixed-holds}
 
 -- the first half
 head-stored : (r : List ℕ) (c : Contents) → length r ≡ recordSize → zeroRuns spareRuns r ≡ true → stores (headFields c) r ≡ form headSize (headFields c) ++ drop headSize r

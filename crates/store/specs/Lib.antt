@@ -2,7 +2,7 @@
 pub mod Areas
 pub mod Record
 pub mod Sound
-pub mod InPlace
+pub mod RecordTests
 pub mod Store
 pub mod Entries
 pub mod OnStore

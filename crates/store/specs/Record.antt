@@ -82,7 +82,7 @@ settingsFields s =
     ∷ []
 
 abbrev pub thermalFields : Thermal → List Field
-thermalFields t = (38, 2, t .minutes) ∷ (40, 1, t .now) ∷ (41, 1, t .cycleMaximum) ∷ (42, 1, t .lifeMaximum) ∷ []
+thermalFields t = (38, 2, t .minutes) ∷ (40, 1, t .current) ∷ (41, 1, t .cycleMaximum) ∷ (42, 1, t .lifeMaximum) ∷ []
 
 abbrev pub fillFields : Fill → List Field
 fillFields f = (48, 8, fillFirst f) ∷ (56, 8, fillNext f) ∷ (64, 8, fillEnd f) ∷ []
@@ -168,7 +168,7 @@ decode r =
                 };
             thermal =
                 record {
-                  now = get 1 r 40;
+                  current = get 1 r 40;
                   cycleMaximum = get 1 r 41;
                   lifeMaximum = get 1 r 42;
                   history = part r (headSize + tableHeadSize) historySize;

@@ -4,25 +4,36 @@ ghost use Prim.Native.Nat.{_+_, _*_, _≤_};
 ghost use lib.ListN.{length};
 ghost use Rattle.wire.specs.Numbers.{get, put};
 
+// How many values a u8, a u16 and a u32 have; how many bytes a u16 and a u32.
+const U8_VALUES: u16 = 256;
+
+const U16_VALUES: u32 = 65536;
+
+const U32_VALUES: u64 = 4294967296;
+
+const U16: usize = 2;
+
+const U32: usize = 4;
+
 // The number whose bytes are lo and hi.
 fn join16(lo: u8, hi: u8) -> u16
     ensures { λ r. ⌜ r ≡ lo + 256 * hi ⌝ }
 {
-    lo as u16 + 256 * (hi as u16)
+    lo as u16 + U8_VALUES * (hi as u16)
 }
 
 // The number whose halves are lo and hi.
 fn join32(lo: u16, hi: u16) -> u32
     ensures { λ r. ⌜ r ≡ lo + 65536 * hi ⌝ }
 {
-    lo as u32 + 65536 * (hi as u32)
+    lo as u32 + U16_VALUES * (hi as u32)
 }
 
 // The number whose halves are lo and hi.
 fn join64(lo: u32, hi: u32) -> u64
     ensures { λ r. ⌜ r ≡ lo + 4294967296 * hi ⌝ }
 {
-    lo as u64 + 4294967296 * (hi as u64)
+    lo as u64 + U32_VALUES * (hi as u64)
 }
 
 // The byte of s at `at`.
@@ -46,7 +57,7 @@ pub fn u32_at(s: &[u8], at: usize) -> u32
     requires { ⌜ at + 4 ≤ length (now s) ⌝ }
     ensures { λ r. ⌜ r ≡ get 4 (now (s .entry)) at ⌝ }
 {
-    join32(u16_at(s, at), u16_at(s, at + 2))
+    join32(u16_at(s, at), u16_at(s, at + U16))
 }
 
 // The number in the eight bytes of s from `at`.
@@ -54,7 +65,7 @@ pub fn u64_at(s: &[u8], at: usize) -> u64
     requires { ⌜ at + 8 ≤ length (now s) ⌝ }
     ensures { λ r. ⌜ r ≡ get 8 (now (s .entry)) at ⌝ }
 {
-    join64(u32_at(s, at), u32_at(s, at + 4))
+    join64(u32_at(s, at), u32_at(s, at + U32))
 }
 
 // Stores the byte v at `at`.
@@ -70,8 +81,8 @@ pub fn put_u16(s: &mut [u8], at: usize, v: u16)
     requires { ⌜ at + 2 ≤ length (now s) ⌝ }
     ensures { λ _. ⌜ now (s .exit) ≡ put 2 (now (s .entry)) at v ⌝ }
 {
-    s[at] = (v % 256) as u8;
-    s[at + 1] = (v / 256 % 256) as u8;
+    s[at] = (v % U8_VALUES) as u8;
+    s[at + 1] = (v / U8_VALUES % U8_VALUES) as u8;
 }
 
 // Stores v in the four bytes from `at`.
@@ -79,8 +90,8 @@ pub fn put_u32(s: &mut [u8], at: usize, v: u32)
     requires { ⌜ at + 4 ≤ length (now s) ⌝ }
     ensures { λ _. ⌜ now (s .exit) ≡ put 4 (now (s .entry)) at v ⌝ }
 {
-    put_u16(s, at, (v % 65536) as u16);
-    put_u16(s, at + 2, (v / 65536) as u16);
+    put_u16(s, at, (v % U16_VALUES) as u16);
+    put_u16(s, at + U16, (v / U16_VALUES) as u16);
 }
 
 // Stores v in the eight bytes from `at`.
@@ -88,6 +99,6 @@ pub fn put_u64(s: &mut [u8], at: usize, v: u64)
     requires { ⌜ at + 8 ≤ length (now s) ⌝ }
     ensures { λ _. ⌜ now (s .exit) ≡ put 8 (now (s .entry)) at v ⌝ }
 {
-    put_u32(s, at, (v % 4294967296) as u32);
-    put_u32(s, at + 4, (v / 4294967296) as u32);
+    put_u32(s, at, (v % U32_VALUES) as u32);
+    put_u32(s, at + U32, (v / U32_VALUES) as u32);
 }

@@ -1,5 +1,5 @@
 -- `decide::access::decide_data` meets its contract.
-use Rattle.record.specs.Meaning.{asTransfer, asDirection}
+use Rattle.record.specs.DeviceMeaning.{asTransfer, asDirection}
 use Rattle.decide.proofs.AccessLaws.{data-refused, data-completed}
 use borrow.Author.Needs.{needs}
 use Rattle.decide.proofs.access.decide_data.Statement.{statement}

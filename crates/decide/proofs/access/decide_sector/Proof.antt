@@ -1,5 +1,5 @@
 -- `decide::access::decide_sector` meets its contract.
-use Rattle.record.specs.Meaning.{asDirection}
+use Rattle.record.specs.DeviceMeaning.{asDirection}
 use Rattle.decide.proofs.AccessLaws.{access-refused, access-done}
 use borrow.Author.Needs.{needs}
 use Rattle.decide.proofs.access.decide_sector.Statement.{statement}

@@ -1,7 +1,7 @@
 -- `decide::access::moved` meets its contract.
 use mathlib.Core.Path.{refl}
 use Rattle.model.specs.Registers.{good}
-use Rattle.control.proofs.ChangeLaws.{unchanged}
+use Rattle.device_update.proofs.ChangeLaws.{unchanged}
 use Rattle.decision.proofs.DecidedLaws.{says-decided}
 use borrow.Author.Needs.{needs}
 use Rattle.decide.proofs.access.moved.Statement.{statement}

@@ -1,5 +1,5 @@
 -- `decide::key_sector::decide_key` meets its contract.
-use Rattle.decide.proofs.KeyLaws.{key-refused, key-accepted}
+use Rattle.decide.proofs.DecideKey.{key-refused, key-accepted}
 use borrow.Author.Needs.{needs}
 use Rattle.decide.proofs.key_sector.decide_key.Statement.{statement}
 use Rattle.decide.proofs.key_sector.decide_key.Tie as tie

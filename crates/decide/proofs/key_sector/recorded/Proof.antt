@@ -1,8 +1,8 @@
 -- `decide::key_sector::recorded` meets its contract.
 use Rattle.model.specs.Update.{withKey}
 use Rattle.model.specs.Fill.{interrupt}
-use Rattle.control.proofs.ChangeLaws.{changed-then}
-use Rattle.decide.proofs.KeyLaws.{words-read}
+use Rattle.device_update.proofs.ChangeLaws.{changed-then}
+use Rattle.decide.proofs.DecideKey.{words-read}
 use borrow.Author.Needs.{needs}
 use Rattle.decide.proofs.key_sector.recorded.Statement.{statement}
 use Rattle.decide.proofs.key_sector.recorded.Tie as tie

@@ -2,7 +2,7 @@
 use mathlib.Core.Path.{refl}
 use Rattle.model.specs.Registers.{good}
 use Rattle.model.specs.Decide.{nothing, carryOut}
-use Rattle.control.proofs.ChangeLaws.{unchanged}
+use Rattle.device_update.proofs.ChangeLaws.{unchanged}
 use Rattle.decision.proofs.DecidedLaws.{says-decided}
 use borrow.Author.Needs.{needs}
 use Rattle.decision.proofs.accepted.carry_out.Statement.{statement}

@@ -1,6 +1,6 @@
 -- `decision::accepted::feature_set` meets its contract.
 use mathlib.Core.Path.{refl}
-use Rattle.record.specs.Meaning.{asFeatureName}
+use Rattle.record.specs.DeviceMeaning.{asFeatureName}
 use Rattle.decision.proofs.FeatureLaws.{feature-decided}
 use borrow.Author.Needs.{needs}
 use Rattle.decision.proofs.accepted.feature_set.Statement.{statement}

@@ -3,7 +3,7 @@ use mathlib.Core.Path.{_∙_}
 use lib.ListN.{length-map}
 use Rattle.store.specs.Record.{answered}
 use Rattle.store.proofs.StageLaws.{stage-stored}
-use Rattle.record.specs.Meaning.{asContents, historyOf, historyAfter}
+use Rattle.record.specs.DeviceMeaning.{asContents, historyOf, historyAfter}
 use Rattle.effect.proofs.EmptiedLaws.{emptied-ready, emptied-history}
 use borrow.Author.Needs.{needs}
 use Rattle.effect.proofs.answered.finish.Statement.{statement}
@@ -17,7 +17,7 @@ write-requires c κs =
     let at-empty-if = c .before .before .before in
     let entry = at-empty-if .before .before .before in
     let a = entry .args in
-    rw (at-empty-if .empty-if .ensures) (emptied-ready (a .r .now) (entry .pre .0) (a .empties))
+    rw (at-empty-if .empty-if .ensures) (emptied-ready (a .device .now) (entry .pre .0) (a .empties))
 
 put-stage-requires : tie.Need-put-stage-requires
 put-stage-requires c κs = search needs
@@ -32,7 +32,7 @@ returns c =
     let at-empty-if = at-write .before .before .before .before in
     let entry = at-empty-if .before .before .before in
     let a = entry .args in
-    rw (at-put-stage .put-stage .ensures, at-write .write .ensures .0, at-empty-if .empty-if .ensures, emptied-history (a .r .now) (entry .pre .0) (a .empties)) (stage-stored (asContents (a .d) (historyAfter (a .empties) (historyOf (a .r .now)))) (a .p) answered (length-map (a .d .slots) _ ∙ entry .pre .2) (entry .pre .1))
+    rw (at-put-stage .put-stage .ensures, at-write .write .ensures .0, at-empty-if .empty-if .ensures, emptied-history (a .device .now) (entry .pre .0) (a .empties)) (stage-stored (asContents (a .d) (historyAfter (a .empties) (historyOf (a .device .now)))) (a .p) answered (length-map (a .d .slots) _ ∙ entry .pre .2) (entry .pre .1))
 
 pub finish-spec : {M : Type 1} → statement M
 finish-spec =

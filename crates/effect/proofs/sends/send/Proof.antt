@@ -1,6 +1,6 @@
 -- `effect::sends::send` meets its contract.
 use native.Mathlib.Omega.{arith}
-use Rattle.record.specs.Meaning.{historyOf}
+use Rattle.record.specs.DeviceMeaning.{historyOf}
 use borrow.Author.Needs.{needs}
 use Rattle.effect.proofs.sends.send.Statement.{statement}
 use Rattle.effect.proofs.sends.send.Tie as tie
@@ -53,7 +53,7 @@ returns-2 c =
     let at-put-status = c .before .before in
     let at-enum-told2 = at-put-status .before .before in
     let entry = at-enum-told2 .before .before .before .before .before in
-    rw (at-enum-told2 .enum-told2 .given .1) (at-put-status .put-status .ensures (historyOf (entry .args .r .now)))
+    rw (at-enum-told2 .enum-told2 .given .1) (at-put-status .put-status .ensures (historyOf (entry .args .device .now)))
 
 same-length-3 : tie.Need-same-length-3
 same-length-3 c = search needs

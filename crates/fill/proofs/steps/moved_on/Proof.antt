@@ -2,7 +2,7 @@
 use Rattle.fill.proofs.StepsLaws.{moved-none, moved-idle, moved-running, left-bounds}
 use native.Mathlib.Omega.{arith}
 use mathlib.Core.Path.{ap}
-use Rattle.record.specs.Meaning.{asFill}
+use Rattle.record.specs.DeviceMeaning.{asFill}
 use borrow.Author.Needs.{needs}
 use Rattle.fill.proofs.steps.moved_on.Statement.{statement}
 use Rattle.fill.proofs.steps.moved_on.Tie as tie

@@ -1,6 +1,6 @@
 -- `fill::steps::work` meets its contract.
 use Rattle.store.proofs.SoundLaws.{sound-parts}
-use Rattle.writing.proofs.FramedLaws.{sound-framed}
+use Rattle.record_write.proofs.FramedLaws.{sound-framed}
 use Rattle.wire.proofs.PartsLaws.{length-part}
 use Rattle.model.specs.Sizes.{sectorSize}
 use Rattle.store.specs.Areas.{fillPlace}
@@ -11,7 +11,7 @@ use Rattle.fill.proofs.steps.work.Statement.{statement}
 use Rattle.fill.proofs.steps.work.Tie as tie
 
 decode-requires : tie.Need-decode-requires
-decode-requires c κs = sound-parts (c .before .before .before .before .args .r .now) (c .before .before .before .before .pre .0) .size
+decode-requires c κs = sound-parts (c .before .before .before .before .args .device .now) (c .before .before .before .before .pre .0) .size
 
 count-of-requires : tie.Need-count-of-requires
 count-of-requires c κs = search needs
@@ -27,7 +27,7 @@ write-sectors-requires c κs =
     let entry = known .before in
     let next = c .next-of .ensures in
     let count = at-count-of .count-of .ensures in
-    let fits = work-fits (entry .args .r .now) (entry .args .area .now) (entry .args .disk .now) _ _ (at-decode .decode .result) (at-decode .decode .result) (at-decode .decode .ensures) (at-count-of .count-of .ensures) (λ i. omega (arith, known .slice-known .given i)) (entry .pre .0) (entry .pre .2) in
+    let fits = work-fits (entry .args .device .now) (entry .args .area .now) (entry .args .disk .now) _ _ (at-decode .decode .result) (at-decode .decode .result) (at-decode .decode .ensures) (at-count-of .count-of .ensures) (λ i. omega (arith, known .slice-known .given i)) (entry .pre .0) (entry .pre .2) in
     (entry .pre .1, omega (arith, next, count, fits))
 
 moved-on-requires : tie.Need-moved-on-requires
@@ -37,7 +37,7 @@ write-requires : tie.Need-write-requires
 write-requires c κs =
     let known = c .before .before .before .before .before .before .before .before .before .before .before .before .before in
     let entry = known .before in
-    sound-framed (entry .args .r .now) (λ i. omega (arith, known .slice-known .given i)) (entry .pre .0)
+    sound-framed (entry .args .device .now) (λ i. omega (arith, known .slice-known .given i)) (entry .pre .0)
 
 same-length : tie.Need-same-length
 same-length c = search needs
@@ -56,10 +56,10 @@ returns c =
     let entry = at-decode .before .before .before .before .before in
     let a = entry .args in
     let whole = length-part (a .area .now) fillPlace sectorSize (omega (arith, entry .pre .1)) in (
-      worked-count (a .r .now) (a .area .now) (a .disk .now) (a .n) _ (at-decode .decode .result) (at-moved-on .moved-on .result) (at-decode .decode .ensures) (at-count-of .count-of .ensures),
+      worked-count (a .device .now) (a .area .now) (a .disk .now) (a .n) _ (at-decode .decode .result) (at-moved-on .moved-on .result) (at-decode .decode .ensures) (at-count-of .count-of .ensures),
       (
-        rw (at-write .write .ensures .0) (worked-record (a .r .now) (a .area .now) (a .disk .now) (a .n) _ (at-decode .decode .result) (at-moved-on .moved-on .result) (at-decode .decode .ensures) (at-count-of .count-of .ensures) whole (at-moved-on .moved-on .ensures)),
-        rw (at-write-sectors .write-sectors .ensures, at-next-of .next-of .ensures) (worked-disk (a .r .now) (a .area .now) (a .disk .now) (a .n) _ (at-decode .decode .result) (at-moved-on .moved-on .result) (at-decode .decode .ensures) (at-count-of .count-of .ensures) whole),
+        rw (at-write .write .ensures .0) (worked-record (a .device .now) (a .area .now) (a .disk .now) (a .n) _ (at-decode .decode .result) (at-moved-on .moved-on .result) (at-decode .decode .ensures) (at-count-of .count-of .ensures) whole (at-moved-on .moved-on .ensures)),
+        rw (at-write-sectors .write-sectors .ensures, at-next-of .next-of .ensures) (worked-disk (a .device .now) (a .area .now) (a .disk .now) (a .n) _ (at-decode .decode .result) (at-moved-on .moved-on .result) (at-decode .decode .ensures) (at-count-of .count-of .ensures) whole),
       ),
     )
 

@@ -1,5 +1,5 @@
 -- `image::entry::body_holds` meets its contract.
-use Rattle.image.specs.InPlace.{bodyInPlace}
+use Rattle.image.specs.EntryTests.{bodyInPlace}
 use borrow.Author.Needs.{needs}
 use Rattle.image.proofs.entry.body_holds.Statement.{statement}
 use Rattle.image.proofs.entry.body_holds.Tie as tie

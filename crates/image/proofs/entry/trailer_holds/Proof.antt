@@ -1,5 +1,5 @@
 -- `image::entry::trailer_holds` meets its contract.
-use Rattle.image.specs.InPlace.{trailerInPlace}
+use Rattle.image.specs.EntryTests.{trailerInPlace}
 use borrow.Author.Needs.{needs}
 use Rattle.image.proofs.entry.trailer_holds.Statement.{statement}
 use Rattle.image.proofs.entry.trailer_holds.Tie as tie

@@ -1,5 +1,5 @@
 -- `image::refusal::has_room` meets its contract.
-use Rattle.image.proofs.RefusalLaws.{room-left}
+use Rattle.image.proofs.ImageAnswers.{room-left}
 use borrow.Author.Needs.{needs}
 use Rattle.image.proofs.refusal.has_room.Statement.{statement}
 use Rattle.image.proofs.refusal.has_room.Tie as tie

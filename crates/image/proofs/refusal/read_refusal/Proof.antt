@@ -2,7 +2,7 @@
 use mathlib.Core.Path.{sym, _∙_}
 use mathlib.Core.Bool.{true, false}
 use borrow.Author.Tests.{not-true, not-false}
-use Rattle.image.proofs.RefusalLaws.{read-long, read-bad, read-disk}
+use Rattle.image.proofs.ImageAnswers.{read-long, read-bad, read-disk}
 use borrow.Author.Needs.{needs}
 use Rattle.image.proofs.refusal.read_refusal.Statement.{statement}
 use Rattle.image.proofs.refusal.read_refusal.Tie as tie

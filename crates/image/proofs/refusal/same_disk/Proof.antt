@@ -1,6 +1,6 @@
 -- `image::refusal::same_disk` meets its contract.
 use native.Mathlib.Omega.{arith}
-use Rattle.image.proofs.RefusalLaws.{disk-empty, entry-before, disk-newest}
+use Rattle.image.proofs.ImageAnswers.{disk-empty, entry-before, disk-newest}
 use Rattle.image.proofs.refusal.same_disk.Statement.{statement}
 use Rattle.image.proofs.refusal.same_disk.Tie as tie
 

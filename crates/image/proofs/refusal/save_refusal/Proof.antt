@@ -3,7 +3,7 @@ use mathlib.Core.Path.{sym, ap, _∙_}
 use mathlib.Core.Bool.{Bool}
 use borrow.Author.Tests.{not-true, not-false}
 use Rattle.wire.specs.Choice.{if_then_else_}
-use Rattle.image.proofs.RefusalLaws.{save-as-read, read-within, save-room}
+use Rattle.image.proofs.ImageAnswers.{save-as-read, read-within, save-room}
 use borrow.Author.Needs.{needs}
 use Rattle.image.proofs.refusal.save_refusal.Statement.{statement}
 use Rattle.image.proofs.refusal.save_refusal.Tie as tie

@@ -5,7 +5,7 @@ use native.Mathlib.Omega.{arith}
 use Rattle.wire.specs.Parts.{part}
 use Rattle.wire.proofs.PartsLaws.{number-of, number-first}
 use Rattle.model.specs.Sizes.{sectorSize}
-use Rattle.key.proofs.KeyReadLaws.{with-lock, with-action, with-fill, with-timer, with-feature, with-table}
+use Rattle.key.proofs.VerdictLaws.{with-lock, with-action, with-fill, with-timer, with-feature, with-table}
 use borrow.Author.Needs.{needs}
 use Rattle.key.proofs.key.read_key.Statement.{statement}
 use Rattle.key.proofs.key.read_key.Tie as tie

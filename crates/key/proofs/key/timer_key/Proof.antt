@@ -3,7 +3,7 @@ use Rattle.wire.proofs.ChoiceLaws.{passed, failed}
 use borrow.Author.Tests.{eq-eqb, ne-eqb}
 use mathlib.Core.Path.{_∙_, sym}
 use Rattle.model.specs.Key.{setTimer, timerName}
-use Rattle.key.proofs.KeyReadLaws.{timer-refused}
+use Rattle.key.proofs.VerdictLaws.{timer-refused}
 use borrow.Author.Needs.{needs}
 use Rattle.key.proofs.key.timer_key.Statement.{statement}
 use Rattle.key.proofs.key.timer_key.Tie as tie

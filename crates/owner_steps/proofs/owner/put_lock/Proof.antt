@@ -3,9 +3,9 @@ use mathlib.Core.Path.{refl}
 use native.Mathlib.Omega.{arith}
 use Rattle.model.specs.Owner.{setLock}
 use Rattle.store.proofs.SoundLaws.{sound-parts}
-use Rattle.record.specs.Meaning.{historyOf}
-use Rattle.writing.proofs.FramedLaws.{sound-framed}
-use Rattle.control.proofs.ChangeLaws.{four-slots}
+use Rattle.record.specs.DeviceMeaning.{historyOf}
+use Rattle.record_write.proofs.FramedLaws.{sound-framed}
+use Rattle.device_update.proofs.ChangeLaws.{four-slots}
 use Rattle.wire.proofs.ChoiceLaws.{passed, failed}
 use Rattle.owner_steps.proofs.OwnerStepLaws.{owner-written}
 use borrow.Author.Needs.{needs}

@@ -4,9 +4,9 @@ use native.Mathlib.Omega.{arith}
 use Rattle.model.specs.Owner.{setVisible}
 use Rattle.store.specs.Entries.{setVisibleBytes}
 use Rattle.store.proofs.SoundLaws.{sound-parts}
-use Rattle.record.specs.Meaning.{historyOf}
-use Rattle.writing.proofs.FramedLaws.{sound-framed}
-use Rattle.control.proofs.ChangeLaws.{four-slots}
+use Rattle.record.specs.DeviceMeaning.{historyOf}
+use Rattle.record_write.proofs.FramedLaws.{sound-framed}
+use Rattle.device_update.proofs.ChangeLaws.{four-slots}
 use Rattle.store.specs.Entries.{visibleChecks}
 use Rattle.owner_steps.proofs.OwnerStepLaws.{visible-passed, owner-refused, owner-done, owner-written}
 use borrow.Author.Needs.{needs}

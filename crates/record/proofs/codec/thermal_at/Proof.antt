@@ -1,5 +1,5 @@
 -- `record::codec::thermal_at` meets its contract.
-use Rattle.record.specs.Meaning.{historyOf}
+use Rattle.record.specs.DeviceMeaning.{historyOf}
 use Rattle.store.specs.Record.{decode}
 use borrow.Author.Needs.{needs}
 use Rattle.record.proofs.codec.thermal_at.Statement.{statement}
@@ -30,10 +30,10 @@ returns c =
     let entry = at-u8-at .before .before in
     λ i.
     record {
-      now = at-u8-at .u8-at .ensures i;
+      current = at-u8-at .u8-at .ensures i;
       cycleMaximum = at-u8-at2 .u8-at2 .ensures i;
       lifeMaximum = at-u8-at3 .u8-at3 .ensures i;
-      history = historyOf (entry .args .r .now);
+      history = historyOf (entry .args .device .now);
       index = at-u16-at .u16-at .ensures i;
       minutes = c .u16-at2 .ensures i;
     }

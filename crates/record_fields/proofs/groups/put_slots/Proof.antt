@@ -43,7 +43,7 @@ returns c =
     let at-put-slot2 = at-put-slot3 .before .before .before .before in
     let at-put-slot = at-put-slot2 .before .before .before .before in
     let entry = at-put-slot .before .before .before .before .before .before .before in
-    let r = entry .args .r .now in
+    let r = entry .args .device .now in
     let l = entry .args .t2 in
     let four : length l ≡ 4 = omega (arith, entry .good) in (
       rw (

@@ -2,7 +2,7 @@
 use mathlib.Core.Path.{refl}
 use Rattle.model.specs.Sizes.{registersSize}
 use Rattle.model.specs.Registers.{registersFields, registersBytes}
-use Rattle.reply.specs.Meaning.{asRegisters}
+use Rattle.reply.specs.ReplyMeaning.{asRegisters}
 use Rattle.wire.proofs.WithinLaws.{form-within}
 use borrow.Author.Needs.{needs}
 use Rattle.reply.proofs.registers.put_registers.Statement.{statement}

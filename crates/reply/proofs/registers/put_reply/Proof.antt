@@ -1,5 +1,5 @@
 -- `reply::registers::put_reply` meets its contract.
-use Rattle.reply.specs.Meaning.{asRegisters}
+use Rattle.reply.specs.ReplyMeaning.{asRegisters}
 use Rattle.reply.proofs.ReplyLaws.{reply-cleared}
 use borrow.Author.Needs.{needs}
 use Rattle.reply.proofs.registers.put_reply.Statement.{statement}

@@ -1,5 +1,5 @@
 -- `request::lba48` meets its contract.
-use Rattle.request.proofs.SlotLaws.{byte-of, lba-of}
+use Rattle.request.proofs.RequestBytes.{byte-of, lba-of}
 use native.Mathlib.Omega.{arith}
 use Rattle.wire.specs.Parts.{part}
 use Rattle.model.specs.Sizes.{mailboxSize}

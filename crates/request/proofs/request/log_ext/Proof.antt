@@ -4,7 +4,7 @@ use native.Mathlib.Omega.{arith}
 use Rattle.model.specs.Registers.{logExt}
 use Rattle.wire.proofs.PartsLaws.{number-of}
 use Rattle.model.specs.Sizes.{mailboxSize}
-use Rattle.request.proofs.SlotLaws.{byte-of}
+use Rattle.request.proofs.RequestBytes.{byte-of}
 use borrow.Author.Needs.{needs}
 use Rattle.request.proofs.request.log_ext.Statement.{statement}
 use Rattle.request.proofs.request.log_ext.Tie as tie

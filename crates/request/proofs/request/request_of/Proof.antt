@@ -2,7 +2,7 @@
 use borrow.Author.Tests.{eq-eqb, ne-eqb}
 use native.Mathlib.Omega.{arith}
 use Rattle.model.specs.Registers.{requestOf}
-use Rattle.request.proofs.SlotLaws.{byte-of}
+use Rattle.request.proofs.RequestBytes.{byte-of}
 use borrow.Author.Needs.{needs}
 use Rattle.request.proofs.request.request_of.Statement.{statement}
 use Rattle.request.proofs.request.request_of.Tie as tie

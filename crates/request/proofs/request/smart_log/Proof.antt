@@ -2,7 +2,7 @@
 use native.Mathlib.Omega.{arith}
 use Rattle.wire.specs.Parts.{part}
 use Rattle.model.specs.Sizes.{mailboxSize}
-use Rattle.request.proofs.SlotLaws.{byte-of, byte-first}
+use Rattle.request.proofs.RequestBytes.{byte-of, byte-first}
 use borrow.Author.Needs.{needs}
 use Rattle.request.proofs.request.smart_log.Statement.{statement}
 use Rattle.request.proofs.request.smart_log.Tie as tie

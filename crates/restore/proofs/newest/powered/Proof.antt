@@ -1,6 +1,6 @@
 -- `restore::newest::powered` meets its contract.
 use mathlib.Core.Path.{refl}
-use Rattle.record.specs.Meaning.{asSettings}
+use Rattle.record.specs.DeviceMeaning.{asSettings}
 use Rattle.restore.proofs.RestoreLaws.{powered-is}
 use Rattle.restore.proofs.newest.powered.Statement.{statement}
 use Rattle.restore.proofs.newest.powered.Tie as tie

@@ -25,12 +25,12 @@ returns c =
     let at-copy-part = c .before .before in
     let at-if1 = at-copy-part .before .before in
     let a = at-if1 .before .before .before .before .args in
-    at-copy-part .copy-part .ensures ∙ history-copied (a .r .now) (a .image .now) (a .at) (a .interval) (at-if1 .if1 .taken ∙ at-if1 .before .u16-at .ensures)
+    at-copy-part .copy-part .ensures ∙ history-copied (a .device .now) (a .image .now) (a .at) (a .interval) (at-if1 .if1 .taken ∙ at-if1 .before .u16-at .ensures)
 
 returns-2 : tie.Need-returns-2
 returns-2 c =
     let a = c .before .before .before .before .args in
-    history-left (a .r .now) (a .image .now) (a .at) (a .interval) (λ e. c .if1 .left (e ∙ sym (c .before .u16-at .ensures)))
+    history-left (a .device .now) (a .image .now) (a .at) (a .interval) (λ e. c .if1 .left (e ∙ sym (c .before .u16-at .ensures)))
 
 pub put-history-spec : {M : Type 1} → statement M
 put-history-spec =

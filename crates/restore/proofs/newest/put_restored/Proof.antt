@@ -4,7 +4,7 @@ use native.Mathlib.Omega.{arith}
 use Rattle.model.specs.Image.{Saved}
 use Rattle.store.specs.Record.{encode}
 use Rattle.store.specs.Entries.{restoredContents}
-use Rattle.image.proofs.RefusalLaws.{read-entry}
+use Rattle.image.proofs.ImageAnswers.{read-entry}
 use Rattle.restore.proofs.RestoreLaws.{restored-blank, restored-newest}
 use borrow.Author.Needs.{needs}
 use Rattle.restore.proofs.newest.put_restored.Statement.{statement}

@@ -5,9 +5,9 @@ use Prim.Native.Nat.{ℕ}
 use Rattle.model.specs.Temperature.{emptyHistory}
 use Rattle.model.specs.Image.{blank}
 use Rattle.store.specs.Record.{encode}
-use Rattle.record.specs.Meaning.{stagesOf, asDevice, asContents, historyOf}
-use Rattle.writing.specs.Framed.{Framed}
-use Rattle.writing.proofs.BlankLaws.{blank-framed, blank-history}
+use Rattle.record.specs.DeviceMeaning.{stagesOf, asDevice, asContents, historyOf}
+use Rattle.record_write.specs.Framed.{Framed}
+use Rattle.record_write.proofs.BlankLaws.{blank-framed, blank-history}
 use Rattle.restore.proofs.RestoreLaws.{restored-encoded}
 use borrow.Author.Needs.{needs}
 use Rattle.restore.proofs.newest.restore_blank.Statement.{statement}

@@ -4,7 +4,7 @@ use mathlib.Core.List.{List}
 use Prim.Native.Nat.{ℕ}
 use Rattle.model.specs.Image.{savedAt, powerOnThermal}
 use Rattle.store.specs.Record.{encode}
-use Rattle.record.specs.Meaning.{stagesOf, asDevice, asContents}
+use Rattle.record.specs.DeviceMeaning.{stagesOf, asDevice, asContents}
 use Rattle.restore.proofs.RestoreLaws.{history-after, history-kept, restored-encoded}
 use borrow.Author.Needs.{needs}
 use Rattle.restore.proofs.newest.restore_entry.Statement.{statement}

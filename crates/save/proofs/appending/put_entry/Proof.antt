@@ -1,7 +1,7 @@
 -- `save::appending::put_entry` meets its contract.
 use native.Mathlib.Omega.{arith}
 use Rattle.store.proofs.SoundLaws.{sound-parts}
-use Rattle.save.proofs.SaveLaws.{entry-stored}
+use Rattle.save.proofs.AppendLaws.{entry-stored}
 use borrow.Author.Needs.{needs}
 use Rattle.save.proofs.appending.put_entry.Statement.{statement}
 use Rattle.save.proofs.appending.put_entry.Tie as tie
@@ -37,7 +37,7 @@ returns : tie.Need-returns
 returns c =
     let a = c .before .before .before .before .before .before .before .before .before .before .before .before .before .before .before .before .before .before .args in
     rw (c .before .before .put-trailer .ensures, c .before .before .before .before .before .before .copy-part .ensures, c .before .before .before .before .before .before .before .before .before .before .put-features .ensures, c .before .before .before .before .before .before .before .before .before .before .before .before .before .before .put-sizes .ensures)
-    (entry-stored (a .r .now) (a .image .now) (a .used) _ (λ i. omega (arith, c .before .before .before .before .before .before .before .before .before .before .before .before .before .before .before .before .shared-slice-known .given i)) (c .before .before .before .before .before .before .before .before .before .before .before .before .before .before .before .before .before .before .pre .0) (omega arith))
+    (entry-stored (a .device .now) (a .image .now) (a .used) _ (λ i. omega (arith, c .before .before .before .before .before .before .before .before .before .before .before .before .before .before .before .before .shared-slice-known .given i)) (c .before .before .before .before .before .before .before .before .before .before .before .before .before .before .before .before .before .before .pre .0) (omega arith))
 
 pub put-entry-spec : {M : Type 1} → statement M
 put-entry-spec =

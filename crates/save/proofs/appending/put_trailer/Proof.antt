@@ -1,5 +1,5 @@
 -- `save::appending::put_trailer` meets its contract.
-use Rattle.save.proofs.SaveLaws.{trailer-stored}
+use Rattle.save.proofs.AppendLaws.{trailer-stored}
 use borrow.Author.Needs.{needs}
 use Rattle.save.proofs.appending.put_trailer.Statement.{statement}
 use Rattle.save.proofs.appending.put_trailer.Tie as tie

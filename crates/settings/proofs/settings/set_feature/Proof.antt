@@ -4,8 +4,8 @@ use Rattle.model.specs.Device.{Settings}
 use Rattle.model.specs.Update.{withSettings, withThermal}
 use Rattle.model.specs.Temperature.{historyEmptied}
 use Rattle.model.specs.Decide.{withFeature}
-use Rattle.record.specs.Meaning.{asDevice, asFeatureName}
-use Rattle.settings.proofs.SettingsLaws.{interval-emptied, other-kept}
+use Rattle.record.specs.DeviceMeaning.{asDevice, asFeatureName}
+use Rattle.settings.proofs.SettingCases.{interval-emptied, other-kept}
 use borrow.Author.Needs.{needs}
 use Rattle.settings.proofs.settings.set_feature.Statement.{statement}
 use Rattle.settings.proofs.settings.set_feature.Tie as tie

@@ -2,7 +2,7 @@
 use mathlib.Core.Path.{refl, ap}
 use Rattle.model.specs.Device.{Settings}
 use Rattle.model.specs.Update.{withSettings}
-use Rattle.record.specs.Meaning.{asDevice}
+use Rattle.record.specs.DeviceMeaning.{asDevice}
 use borrow.Author.Needs.{needs}
 use Rattle.settings.proofs.settings.set_timer.Statement.{statement}
 use Rattle.settings.proofs.settings.set_timer.Tie as tie

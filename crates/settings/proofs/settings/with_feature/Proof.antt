@@ -1,7 +1,7 @@
 -- `settings::with_feature` meets its contract.
 use mathlib.Core.Path.{sym, _∙_}
-use Rattle.record.specs.Meaning.{asFeature, asSettings, asFeatureName}
-use Rattle.settings.proofs.SettingsLaws.{cache-set, interval-set, reordering-set}
+use Rattle.record.specs.DeviceMeaning.{asFeature, asSettings, asFeatureName}
+use Rattle.settings.proofs.SettingCases.{cache-set, interval-set, reordering-set}
 use borrow.Author.Needs.{needs}
 use Rattle.settings.proofs.settings.with_feature.Statement.{statement}
 use Rattle.settings.proofs.settings.with_feature.Tie as tie

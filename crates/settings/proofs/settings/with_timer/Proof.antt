@@ -1,7 +1,7 @@
 -- `settings::with_timer` meets its contract.
 use mathlib.Core.Path.{sym, _∙_}
-use Rattle.record.specs.Meaning.{asSettings, asDirection}
-use Rattle.settings.proofs.SettingsLaws.{read-timer, write-timer}
+use Rattle.record.specs.DeviceMeaning.{asSettings, asDirection}
+use Rattle.settings.proofs.SettingCases.{read-timer, write-timer}
 use borrow.Author.Needs.{needs}
 use Rattle.settings.proofs.settings.with_timer.Statement.{statement}
 use Rattle.settings.proofs.settings.with_timer.Tie as tie

@@ -17,7 +17,7 @@ returns c =
     let at-kept2 = c .before in
     let at-kept = at-kept2 .before in
     let a = at-kept .before .args in
-    λ i. record { readTimer = a .read; writeTimer = a .write; writeCache = (at-kept .kept .ensures) i; reordering = (at-kept2 .kept2 .ensures) i; logInterval = (c .kept3 .ensures) i }
+    λ i. record { readTimer = a .read-timer; writeTimer = a .write-timer; writeCache = (at-kept .kept .ensures) i; reordering = (at-kept2 .kept2 .ensures) i; logInterval = (c .kept3 .ensures) i }
 
 pub power-on-spec : {M : Type 1} → statement M
 power-on-spec = tie.close (tie.spec kept-requires kept-requires-2 kept-requires-3 returns)

@@ -1,0 +1,41 @@
+-- `console::put_hex2` meets its contract: two digits, one after the other.
+use native.Mathlib.Omega.{arith}
+use borrow.Author.Needs.{needs}
+use Rattle.console.proofs.DigitsLaws.{hex-two}
+use Rattle.console.proofs.WroteLaws.{wrote-then, wrote-as}
+use Rattle.console.proofs.line.put_hex2.Statement.{statement}
+use Rattle.console.proofs.line.put_hex2.Tie as tie
+
+hex-digit-requires : tie.Need-hex-digit-requires
+hex-digit-requires c κs = search needs
+
+put-byte-requires : tie.Need-put-byte-requires
+put-byte-requires c κs = search needs
+
+hex-digit-requires-2 : tie.Need-hex-digit-requires-2
+hex-digit-requires-2 c κs = search needs
+
+put-byte-requires-2 : tie.Need-put-byte-requires-2
+put-byte-requires-2 c κs = search needs
+
+same-length : tie.Need-same-length
+same-length c = search needs
+
+returns : tie.Need-returns
+returns c =
+    let a = c .before .before .before .before .before .before .before .before .before .before .before .args in (
+      omega arith,
+      wrote-as (rw (c .before .before .before .before .before .before .before .before .hex-digit .ensures, c .before .before .before .hex-digit2 .ensures) (hex-two (a .v) (omega arith)))
+          (wrote-then (c .before .before .before .before .before .before .before .put-byte .ensures .1) (c .before .before .put-byte2 .ensures .1)),
+    )
+
+pub put-hex2-spec : {M : Type 1} → statement M
+put-hex2-spec =
+    tie.close
+    (tie.spec
+    hex-digit-requires
+    put-byte-requires
+    hex-digit-requires-2
+    put-byte-requires-2
+    same-length
+    returns)

@@ -1,0 +1,40 @@
+-- `console::put_hex4` meets its contract: the two high digits, then the two low ones.
+use native.Mathlib.Omega.{arith}
+use borrow.Author.Needs.{needs}
+use Rattle.console.proofs.WroteLaws.{wrote-then, wrote-as}
+use Rattle.console.proofs.DigitsLaws.{hex-halves}
+use Rattle.console.proofs.line.put_hex4.Statement.{statement}
+use Rattle.console.proofs.line.put_hex4.Tie as tie
+
+cast-put-hex2 : tie.Need-cast-put-hex2
+cast-put-hex2 c = search needs
+
+put-hex2-requires : tie.Need-put-hex2-requires
+put-hex2-requires c κs = search needs
+
+cast-put-hex2-2 : tie.Need-cast-put-hex2-2
+cast-put-hex2-2 c = search needs
+
+put-hex2-requires-2 : tie.Need-put-hex2-requires-2
+put-hex2-requires-2 c κs = search needs
+
+same-length : tie.Need-same-length
+same-length c = search needs
+
+returns : tie.Need-returns
+returns c = (
+  omega arith,
+  wrote-as (hex-halves 2 2 (c .before .before .before .before .before .before .before .before .before .args .v))
+      (wrote-then (c .before .before .before .before .before .before .put-hex2 .ensures .1) (c .before .before .put-hex22 .ensures .1)),
+)
+
+pub put-hex4-spec : {M : Type 1} → statement M
+put-hex4-spec =
+    tie.close
+    (tie.spec
+    cast-put-hex2
+    put-hex2-requires
+    cast-put-hex2-2
+    put-hex2-requires-2
+    same-length
+    returns)

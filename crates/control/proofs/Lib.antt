@@ -1,4 +1,0 @@
--- Laws of structs that the functions change.
-pub mod ChangeLaws
-pub mod InterruptLaw
-pub mod SlotLaws

@@ -1,0 +1,71 @@
+-- `desk_session::turns::exchange` meets its contract.
+use Rattle.desk_session.specs.Turn.{served, given, worked}
+use native.Mathlib.Omega.{arith}
+use Rattle.desk_session.proofs.TurnLaws.{count-within, result-count}
+use borrow.Author.Needs.{needs}
+use Rattle.desk_session.proofs.turns.exchange.Statement.{statement}
+use Rattle.desk_session.proofs.turns.exchange.Tie as tie
+
+sct-take-requires : tie.Need-sct-take-requires
+sct-take-requires c κs = search needs
+
+sct-serve-requires : tie.Need-sct-serve-requires
+sct-serve-requires c κs = search needs
+
+sct-give-requires : tie.Need-sct-give-requires
+sct-give-requires c κs = search needs
+
+sct-work-requires : tie.Need-sct-work-requires
+sct-work-requires c κs = search needs
+
+same-length : tie.Need-same-length
+same-length c = search needs
+
+same-length-2 : tie.Need-same-length-2
+same-length-2 c = search needs
+
+same-length-3 : tie.Need-same-length-3
+same-length-3 c = search needs
+
+same-length-4 : tie.Need-same-length-4
+same-length-4 c = search needs
+
+returns : tie.Need-returns
+returns c =
+    let at-sct-work = c .before .before .before .before in
+    let at-sct-give = at-sct-work .before .before .before .before .before .before .before .before in
+    let at-sct-serve = at-sct-give .before .before .before .before .before .before .before .before .before .before in
+    let at-sct-take = at-sct-serve .before .before .before .before .before .before .before .before in
+    let entry = at-sct-take .before .before .before .before .before .before .before .before in
+    let a = entry .args in
+    let r = a .device .now in
+    let p = a .area .now in
+    let d = a .disk .now in
+    let m = a .mailbox .now in
+    let n = a .n in
+    let t = at-sct-take .sct-take .ensures in
+    let s = at-sct-serve .sct-serve .ensures in
+    let g = at-sct-give .sct-give .ensures in
+    let w = at-sct-work .sct-work .ensures in
+    let within = count-within (given r p d m n .recordArea) (served r p d m n .privateArea) (served r p d m n .disk) n in
+    record {
+      counted = result-count (at-sct-work .sct-work .result) (worked r p d m n .answer) (worked r p d m n .count) (rw (g .1 .0, s .1 .0, s .1 .1 .0, s .1 .1 .1, t .1 .0, t .1 .1) at (w .0)) (omega (arith, within, entry .fits));
+      recordBytes = rw (w .1 .0, g .1 .0, s .1 .0, s .1 .1 .0, s .1 .1 .1, t .1 .0, t .1 .1);
+      areaBytes = rw (s .1 .1 .0, t .1 .0, t .1 .1);
+      diskBytes = rw (w .1 .1, g .1 .0, s .1 .0, s .1 .1 .0, s .1 .1 .1, t .1 .0, t .1 .1);
+      mailboxBytes = rw (g .1 .1, s .1 .0, s .1 .1 .0, t .1 .0, t .1 .1);
+    }
+
+pub exchange-spec : {M : Type 1} → statement M
+exchange-spec =
+    tie.close
+    (tie.spec
+    sct-take-requires
+    sct-serve-requires
+    sct-give-requires
+    sct-work-requires
+    same-length
+    same-length-2
+    same-length-3
+    same-length-4
+    returns)

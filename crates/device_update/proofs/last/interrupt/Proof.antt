@@ -1,0 +1,58 @@
+-- `device_update::last::interrupt` meets its contract.
+use borrow.Author.Needs.{needs}
+use Rattle.device_update.proofs.InterruptLaw.{interrupted}
+use Rattle.device_update.proofs.last.interrupt.Statement.{statement}
+use Rattle.device_update.proofs.last.interrupt.Tie as tie
+
+stopped-code-requires : tie.Need-stopped-code-requires
+stopped-code-requires c κs = search needs
+
+array-copy-out-cleared : tie.Need-array-copy-out-cleared
+array-copy-out-cleared c = search needs
+
+cleared-requires : tie.Need-cleared-requires
+cleared-requires c κs = search needs
+
+array-copy-out-cleared-2 : tie.Need-array-copy-out-cleared-2
+array-copy-out-cleared-2 c = search needs
+
+cleared-requires-2 : tie.Need-cleared-requires-2
+cleared-requires-2 c κs = search needs
+
+array-copy-out-cleared-3 : tie.Need-array-copy-out-cleared-3
+array-copy-out-cleared-3 c = search needs
+
+cleared-requires-3 : tie.Need-cleared-requires-3
+cleared-requires-3 c κs = search needs
+
+array-copy-out-cleared-4 : tie.Need-array-copy-out-cleared-4
+array-copy-out-cleared-4 c = search needs
+
+cleared-requires-4 : tie.Need-cleared-requires-4
+cleared-requires-4 c κs = search needs
+
+returns : tie.Need-returns
+returns c =
+    let at-cleared4 = c .before .before in
+    let at-cleared3 = at-cleared4 .before .before in
+    let at-cleared2 = at-cleared3 .before .before in
+    let at-cleared = at-cleared2 .before .before in
+    let at-stopped-code = at-cleared .before .before .before in
+    let entry = at-stopped-code .before .before in
+    interrupted (entry .args .d) (at-stopped-code .stopped-code .result) _ (at-cleared .cleared .result) (at-cleared2 .cleared2 .result) (at-cleared3 .cleared3 .result) (at-cleared4 .cleared4 .result) (entry .pre)
+    (at-stopped-code .stopped-code .ensures) (at-cleared .cleared .ensures) (at-cleared2 .cleared2 .ensures) (at-cleared3 .cleared3 .ensures) (at-cleared4 .cleared4 .ensures)
+
+pub interrupt-spec : {M : Type 1} → statement M
+interrupt-spec =
+    tie.close
+    (tie.spec
+    stopped-code-requires
+    array-copy-out-cleared
+    cleared-requires
+    array-copy-out-cleared-2
+    cleared-requires-2
+    array-copy-out-cleared-3
+    cleared-requires-3
+    array-copy-out-cleared-4
+    cleared-requires-4
+    returns)

@@ -1,0 +1,20 @@
+// The answers of a step, with the names of crates/model/specs/Sizes and of the header.
+
+// "No. Meaning"
+pub const DONE: u32 = 0;
+
+pub const BAD_PORT: u32 = 1;
+
+pub const BAD_LENGTH: u32 = 2;
+
+pub const BAD_STAGE: u32 = 3;
+
+pub const BAD_RECORD: u32 = 4;
+
+pub const BAD_VALUE: u32 = 5;
+
+pub const BAD_IMAGE: u32 = 6;
+
+pub const OTHER_DISK: u32 = 7;
+
+pub const IMAGE_FULL: u32 = 8;

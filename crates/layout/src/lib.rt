@@ -1,0 +1,68 @@
+// The sizes of document 01 that code names, in bytes where nothing else is said. Definitions have them in crates/model/specs/Sizes and
+// crates/store/specs/Areas; that code and definitions agree is proved where they are used.
+
+pub mod answer;
+pub mod ata;
+pub mod entry;
+pub mod field;
+pub mod port;
+pub mod sct;
+pub mod status;
+pub mod table;
+
+// "Disk: a lent run of 1 to 65,536 sectors of 512 bytes"; sector numbers are u64.
+pub const SECTOR: usize = 512;
+
+pub const SECTOR_U64: u64 = SECTOR as u64;
+
+pub const NATIVE_LIMIT: u64 = 65536;
+
+// "A mailbox is 528 bytes: 16 of registers, then a 512-byte sector." So is a slot.
+pub const REGISTERS: usize = 16;
+
+pub const DATA: usize = SECTOR;
+
+pub const MAILBOX: usize = REGISTERS + DATA;
+
+// "Private area, 2,624 bytes: four slots of 528, then the fill sector."
+pub const PORTS: usize = 4;
+
+pub const PORTS_U32: u32 = PORTS as u32;
+
+pub const FILL_AT: usize = PORTS * MAILBOX;
+
+pub const PRIVATE: usize = FILL_AT + SECTOR;
+
+// The device record, and the temperature table in its second half (its places: table.rt).
+pub const RECORD: usize = 1024;
+
+pub const TABLE_AT: usize = 512;
+
+// "size 478", also as a u16; the last index
+pub const HISTORY: usize = 478;
+
+pub const HISTORY_U16: u16 = HISTORY as u16;
+
+pub const LAST_INDEX: u16 = HISTORY_U16 - 1;
+
+// "Empty history is all 80h, index 477"; "80h means missing"
+pub const EMPTY_INDEX: u16 = LAST_INDEX;
+
+pub const MISSING: u8 = 0x80;
+
+// "Entries of 560 bytes: 544 of body, a 16-byte trailer at the end", also as u32; at most 117 of them (their places: entry.rt).
+pub const BODY: usize = 544;
+
+pub const BODY_U32: u32 = BODY as u32;
+
+pub const TRAILER: usize = 16;
+
+pub const TRAILER_U32: u32 = TRAILER as u32;
+
+pub const ENTRY: usize = BODY + TRAILER;
+
+pub const ENTRY_U32: u32 = ENTRY as u32;
+
+pub const ENTRIES: usize = 117;
+
+pub const IMAGE_LIMIT: usize = ENTRY * ENTRIES;

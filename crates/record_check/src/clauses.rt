@@ -1,0 +1,127 @@
+// The clauses of document 01 on what a record says: read part by part, and judged as numbers and small structs.
+use layout::HISTORY_U16;
+use layout::NATIVE_LIMIT;
+use layout::field;
+use layout::sct;
+use layout::table;
+use record::Fill;
+use record::Settings;
+use record::Transfer;
+ghost use mathlib.Core.Path.{_≡_};
+ghost use mathlib.Core.Bool.{_&&_};
+ghost use mathlib.Core.List.{[], _∷_};
+ghost use Prim.Native.Nat.{_≤_};
+ghost use lib.ListN.{length};
+ghost use lib.Dec.{leb};
+ghost use Rattle.model.specs.Valid.{pendingCount, pendingLimit};
+ghost use Rattle.store.specs.Areas.{recordSize};
+ghost use Rattle.store.specs.Record.{decode};
+ghost use Rattle.store.specs.Sound.{fillSound, transferSound, pendingSound, commandSound, timerSound, settingsSound, deviceSound};
+ghost use Rattle.record.specs.DeviceMeaning.{asTransfer, asFill, asSettings};
+
+// "if a fill runs, first ≤ next < end ≤ V"; "the stored code is FFFFh exactly while a fill runs"
+fn fill_sound(visible: u64, code: u16, fill: Fill) -> bool
+    ensures { λ res. ⌜ res ≡ fillSound visible code (asFill fill) ⌝ }
+{
+    match fill {
+        Fill::Idle => code != sct::IN_BACKGROUND,
+        Fill::Running(first, next, end) => {
+            (code == sct::IN_BACKGROUND) & (first <= next) & (next < end) & (end <= visible)
+        }
+    }
+}
+
+// "an owed fill has first < end ≤ V"
+fn transfer_sound(visible: u64, t: Transfer) -> bool
+    ensures { λ res. ⌜ res ≡ transferSound visible (asTransfer t) ⌝ }
+{
+    match t {
+        Transfer::None => true,
+        Transfer::Table => true,
+        Transfer::FillData(first, end) => (first < end) & (end <= visible),
+    }
+}
+
+// 1 for a transfer that is pending, else 0.
+fn count_of(t: Transfer) -> u8
+    ensures { λ res. ⌜ res ≡ pendingCount (asTransfer t ∷ []) ⌝ }
+    ensures small { λ res. ⌜ res ≤ 1 ⌝ }
+{
+    match t {
+        Transfer::None => 0,
+        Transfer::Table => 1,
+        Transfer::FillData(_, _) => 1,
+    }
+}
+
+// How many transfers may be pending beside the fill.
+fn limit_of(fill: Fill) -> u8
+    ensures { λ res. ⌜ res ≡ pendingLimit (asFill fill) ⌝ }
+{
+    match fill {
+        Fill::Idle => 1,
+        Fill::Running(_, _, _) => 0,
+    }
+}
+
+// "an owed fill has first < end ≤ V"; "a fill and an owed transfer never coexist", and at most one is pending: what the four ports have
+// pending, beside a fill that leaves room for `limit`.
+fn pending_sound(device: &[u8], visible: u64, limit: u8) -> bool
+    requires { ⌜ length (now device) ≡ recordSize ⌝ }
+    ensures { λ res. ⌜ res ≡ (pendingSound visible (decode (now (device .entry)) .device .command .pending) && leb (pendingCount (decode (now (device .entry)) .device .command .pending)) limit) ⌝ }
+{
+    let a = record::transfer_at(device, 0);
+    let b = record::transfer_at(device, 1);
+    let c = record::transfer_at(device, 2);
+    let d = record::transfer_at(device, 3);
+    (transfer_sound(visible, a)
+        & (transfer_sound(visible, b) & (transfer_sound(visible, c) & transfer_sound(visible, d))))
+        & (count_of(a) + count_of(b) + count_of(c) + count_of(d) <= limit)
+}
+
+// The last command, with what the ports have pending.
+fn command_sound(device: &[u8], visible: u64) -> bool
+    requires { ⌜ length (now device) ≡ recordSize ⌝ }
+    ensures { λ res. ⌜ res ≡ commandSound visible (decode (now (device .entry)) .device .command) ⌝ }
+{
+    let fill = record::fill_at(device);
+    fill_sound(visible, record::code_at(device), fill)
+        & pending_sound(device, visible, limit_of(fill))
+}
+
+// "each timer is 0 or at least 10"
+fn timer_sound(n: u16) -> bool
+    ensures { λ res. ⌜ res ≡ timerSound n ⌝ }
+{
+    (n == 0) | (sct::TIMER_MINIMUM <= n)
+}
+
+// "the interval is 1 or more"; "every .. feature state has one of its named values"
+fn settings_sound(s: Settings) -> bool
+    ensures { λ res. ⌜ res ≡ settingsSound (asSettings s) ⌝ }
+{
+    let cache = s.write_cache.state;
+    let reordering = s.reordering.state;
+    let interval = s.log_interval.state;
+    timer_sound(s.read_timer)
+        & timer_sound(s.write_timer)
+        & ((1 <= cache) & (cache <= sct::WRITE_CACHE_LIMIT))
+        & ((1 <= reordering) & (reordering <= sct::REORDERING_LIMIT))
+        & ((1 <= interval) & (interval <= sct::LOG_INTERVAL_LIMIT))
+}
+
+// "1 ≤ V ≤ N ≤ 65,536"; "minutes counted are below it, the history index is at most 477". The history is not judged.
+pub fn device_sound(device: &[u8]) -> bool
+    requires { ⌜ length (now device) ≡ recordSize ⌝ }
+    ensures { λ res. ⌜ res ≡ deviceSound (decode (now (device .entry)) .device) ⌝ }
+{
+    let native = record::native_at(device);
+    let visible = record::visible_at(device);
+    let settings = record::settings_at(device);
+    let interval = settings.log_interval.state;
+    ((1 <= visible) & (visible <= native) & (native <= NATIVE_LIMIT))
+        & command_sound(device, visible)
+        & settings_sound(settings)
+        & ((wire::u16_at(device, field::MINUTES_AT) < interval)
+            & (wire::u16_at(device, table::RECORD_INDEX_AT) < HISTORY_U16))
+}

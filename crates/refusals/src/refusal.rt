@@ -1,0 +1,123 @@
+// The checks of take, serve, give and work, in the order of their numbers: 4, 2, 1, 3; and the length of the disk that they let a step write.
+use layout::MAILBOX;
+use layout::PORTS_U32;
+use layout::PRIVATE;
+use layout::SECTOR_U64;
+use layout::answer;
+use record::Stage;
+ghost use mathlib.Core.Path.{_≡_};
+ghost use mathlib.Core.Bool.{true};
+ghost use mathlib.Core.List.{List, [], _∷_};
+ghost use Prim.Native.Nat.{ℕ, _*_};
+ghost use lib.ListN.{length};
+ghost use lib.Dec.{eqb};
+ghost use Rattle.wire.specs.Choice.{firstFailed};
+ghost use Rattle.model.specs.Sizes.{sectorSize};
+ghost use Rattle.store.specs.Areas.{recordSize};
+ghost use Rattle.store.specs.Record.{decode};
+ghost use Rattle.store.specs.Sound.{sound};
+ghost use Rattle.store.specs.Entries.{goodPort, inStage, mailboxChecks, serveChecks, workChecks};
+ghost use Rattle.record.specs.DeviceMeaning.{asStage};
+ghost use Rattle.refusals.specs.Needed.{isStage};
+
+// Whether a stage is the one that a step needs.
+fn is_stage(needed: Stage, stage: Stage) -> bool
+    ensures { λ r. ⌜ r ≡ isStage (asStage needed) (asStage stage) ⌝ }
+{
+    match needed {
+        Stage::Empty => match stage {
+            Stage::Empty => true,
+            Stage::Held => false,
+            Stage::Answered => false,
+        },
+        Stage::Held => match stage {
+            Stage::Empty => false,
+            Stage::Held => true,
+            Stage::Answered => false,
+        },
+        Stage::Answered => match stage {
+            Stage::Empty => false,
+            Stage::Held => false,
+            Stage::Answered => true,
+        },
+    }
+}
+
+// "port above 3": 1; "slot not in the stage the step needs": 3.
+fn slot_refusal(device: &[u8], port: u32, needed: Stage) -> u32
+    requires { ⌜ length (now device) ≡ recordSize ⌝ }
+    ensures { λ n. ⌜ n ≡ firstFailed (goodPort port ∷ inStage (isStage (asStage needed)) (now (device .entry)) port ∷ []) ⌝ }
+{
+    if port >= PORTS_U32 {
+        return answer::BAD_PORT;
+    }
+    if !is_stage(needed, record::stage_at(device, port as usize)) {
+        return answer::BAD_STAGE;
+    }
+    0
+}
+
+// The checks of take and give. They see the sizes of mailbox and private area, not their bytes.
+pub fn mailbox_refusal(
+    device: &[u8],
+    port: u32,
+    mailbox_len: usize,
+    area_len: usize,
+    needed: Stage,
+) -> u32
+    ensures { λ n. ⌜ ((m a : List ℕ) → length m ≡ «mailbox_len» → length a ≡ «area_len» → n ≡ firstFailed (mailboxChecks (isStage (asStage needed)) (now (device .entry)) port m a)) ⌝ }
+{
+    if !record_check::sound(device) {
+        return answer::BAD_RECORD;
+    }
+    if mailbox_len != MAILBOX {
+        return answer::BAD_LENGTH;
+    }
+    if area_len != PRIVATE {
+        return answer::BAD_LENGTH;
+    }
+    slot_refusal(device, port, needed)
+}
+
+// Whether a disk of this length has the record's N sectors.
+fn is_disk(device: &[u8], disk_len: usize) -> bool
+    requires { ⌜ sound (now device) ≡ true ⌝ }
+    ensures { λ r. ⌜ r ≡ eqb «disk_len» (sectorSize * decode (now (device .entry)) .device .native) ⌝ }
+{
+    disk_len as u64 == SECTOR_U64 * record::native_at(device)
+}
+
+// The bytes of the visible disk.
+pub fn visible_len(device: &[u8]) -> usize
+    requires { ⌜ sound (now device) ≡ true ⌝ }
+    ensures { λ e. ⌜ e ≡ sectorSize * decode (now (device .entry)) .device .visible ⌝ }
+{
+    (SECTOR_U64 * record::visible_at(device)) as usize
+}
+
+// The checks of work.
+pub fn work_refusal(device: &[u8], area_len: usize, disk_len: usize) -> u32
+    ensures { λ n. ⌜ ((a sectors : List ℕ) → length a ≡ «area_len» → length sectors ≡ «disk_len» → n ≡ firstFailed (workChecks (now (device .entry)) a sectors)) ⌝ }
+{
+    if !record_check::sound(device) {
+        return answer::BAD_RECORD;
+    }
+    if area_len != PRIVATE {
+        return answer::BAD_LENGTH;
+    }
+    if !is_disk(device, disk_len) {
+        return answer::BAD_LENGTH;
+    }
+    0
+}
+
+// The checks of serve: those of work, then port and stage.
+pub fn serve_refusal(device: &[u8], port: u32, area_len: usize, disk_len: usize) -> u32
+    ensures { λ n. ⌜ ((a sectors : List ℕ) → length a ≡ «area_len» → length sectors ≡ «disk_len» → n ≡ firstFailed (serveChecks (now (device .entry)) port a sectors)) ⌝ }
+{
+    let refusal = work_refusal(device, area_len, disk_len);
+    if refusal != 0 {
+        return refusal;
+    }
+    slot_refusal(device, port, Stage::Held)
+}

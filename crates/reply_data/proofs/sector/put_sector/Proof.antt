@@ -1,0 +1,45 @@
+-- `reply_data::sector::put_sector` meets its contract.
+use Prim.Native.Nat.{_*_}
+use Rattle.wire.specs.Parts.{part}
+use Rattle.wire.proofs.PartsLaws.{length-part}
+use Rattle.model.specs.Sizes.{sectorSize}
+use Rattle.reply.specs.ReplyMeaning.{asRegisters}
+use Rattle.reply.proofs.ReplyLaws.{reply-stored}
+use borrow.Author.Needs.{needs}
+use Rattle.reply_data.proofs.sector.put_sector.Statement.{statement}
+use Rattle.reply_data.proofs.sector.put_sector.Tie as tie
+
+put-registers-requires : tie.Need-put-registers-requires
+put-registers-requires c κs = search needs
+
+add-copy-part : tie.Need-add-copy-part
+add-copy-part c = search needs
+
+mul-copy-part : tie.Need-mul-copy-part
+mul-copy-part c = search needs
+
+copy-part-requires : tie.Need-copy-part-requires
+copy-part-requires c κs = search needs
+
+same-length : tie.Need-same-length
+same-length c = search needs
+
+returns : tie.Need-returns
+returns c =
+    let at-copy-part = c .before .before in
+    let at-put-registers = at-copy-part .before .before .before .before in
+    let entry = at-put-registers .before .before .before .before in
+    let a = entry .args in
+    rw (at-copy-part .copy-part .ensures, at-put-registers .put-registers .ensures)
+    (reply-stored (a .area .now) (a .at) (asRegisters (a .reply)) (part (a .disk .now) (sectorSize * a .lba) sectorSize) (length-part (a .disk .now) (sectorSize * a .lba) sectorSize (entry .pre .1)))
+
+pub put-sector-spec : {M : Type 1} → statement M
+put-sector-spec =
+    tie.close
+    (tie.spec
+    put-registers-requires
+    add-copy-part
+    mul-copy-part
+    copy-part-requires
+    same-length
+    returns)

@@ -1,0 +1,39 @@
+-- `reply_data::sector::put_table` meets its contract.
+use native.Mathlib.Omega.{arith}
+use Rattle.wire.specs.Parts.{part}
+use Rattle.wire.proofs.PartsLaws.{length-part}
+use Rattle.model.specs.Sizes.{sectorSize}
+use Rattle.store.specs.Areas.{headSize}
+use Rattle.reply.specs.ReplyMeaning.{asRegisters}
+use Rattle.reply.proofs.ReplyLaws.{reply-stored}
+use borrow.Author.Needs.{needs}
+use Rattle.reply_data.proofs.sector.put_table.Statement.{statement}
+use Rattle.reply_data.proofs.sector.put_table.Tie as tie
+
+put-registers-requires : tie.Need-put-registers-requires
+put-registers-requires c κs = search needs
+
+add-copy-part : tie.Need-add-copy-part
+add-copy-part c = search needs
+
+copy-part-requires : tie.Need-copy-part-requires
+copy-part-requires c κs = search needs
+
+same-length : tie.Need-same-length
+same-length c = search needs
+
+returns : tie.Need-returns
+returns c =
+    let a = c .before .before .before .before .before .before .before .before .before .before .args in
+    rw (c .before .before .copy-part .ensures, c .before .before .before .before .before .before .put-registers .ensures)
+    (reply-stored (a .area .now) (a .at) (asRegisters (a .reply)) (part (a .device .now) headSize sectorSize) (length-part (a .device .now) headSize sectorSize (omega arith)))
+
+pub put-table-spec : {M : Type 1} → statement M
+put-table-spec =
+    tie.close
+    (tie.spec
+    put-registers-requires
+    add-copy-part
+    copy-part-requires
+    same-length
+    returns)

@@ -1,0 +1,131 @@
+// The replies that carry data: the status sector, Table 11 of document 001; the temperature table; a sector of the disk.
+use layout::REGISTERS;
+use layout::SECTOR;
+use layout::SECTOR_U64;
+use layout::TABLE_AT;
+use layout::status;
+use record::Command;
+use record::Device;
+use record::Fill;
+use record::Thermal;
+use reply::Reply;
+use reply::put_registers;
+use reply::put_reply;
+use runs::copy_part;
+use wire::put_u8;
+use wire::put_u16;
+use wire::put_u32;
+use wire::put_u64;
+ghost use mathlib.Core.Path.{_≡_};
+ghost use Prim.Native.Nat.{ℕ, _+_, _*_, _≤_};
+ghost use mathlib.Core.List.{List, []};
+ghost use lib.ListN.{length};
+ghost use lib.Seq.{sets};
+ghost use Rattle.wire.specs.Choice.{bit};
+ghost use Rattle.wire.specs.Parts.{part};
+ghost use Rattle.wire.specs.Layout.{stores, placed};
+ghost use Rattle.model.specs.Sizes.{sectorSize, mailboxSize};
+ghost use Rattle.model.specs.Registers.{replyBytes};
+ghost use Rattle.model.specs.Status.{driveState, currentLba, statusHead, statusCommand, statusTemperatures, statusSector};
+ghost use Rattle.store.specs.Areas.{recordSize, headSize};
+ghost use Rattle.record.specs.DeviceMeaning.{asFill, asThermal, asCommand, asDevice};
+ghost use Rattle.reply.specs.ReplyMeaning.{asRegisters};
+
+// "flag bit 0 at 6"
+fn flags(initialized: bool) -> u32
+    ensures { λ r. ⌜ r ≡ bit initialized ⌝ }
+{
+    if initialized { 1 } else { 0 }
+}
+
+// "state at 10 (0, or 5 with a fill)"
+fn drive_state(fill: Fill) -> u8
+    ensures { λ r. ⌜ r ≡ driveState (asFill fill) ⌝ }
+{
+    match fill {
+        Fill::Idle => 0,
+        Fill::Running(_, _, _) => status::STATE_IN_BACKGROUND,
+    }
+}
+
+// "LBA 40-47 the next sector, 0 with no fill"
+fn current_lba(fill: Fill) -> u64
+    ensures { λ r. ⌜ r ≡ currentLba (asFill fill) ⌝ }
+{
+    match fill {
+        Fill::Idle => 0,
+        Fill::Running(_, next, _) => next,
+    }
+}
+
+// "format 0002h; version 0001h at 2; spec 0001h at 4; flag bit 0 at 6; state at 10"
+fn put_head(area: &mut [u8], at: usize, initialized: bool, fill: Fill)
+    requires { ⌜ at + sectorSize ≤ length (now area) ⌝ }
+    ensures { λ _. ⌜ now (area .exit) ≡ stores (placed at (statusHead initialized (asFill fill))) (now (area .entry)) ⌝ }
+{
+    put_u16(area, at, status::FORMAT);
+    put_u16(area, at + status::VERSION_AT, status::VERSION);
+    put_u16(area, at + status::SPEC_AT, status::SPEC);
+    put_u32(area, at + status::FLAGS_AT, flags(initialized));
+    put_u8(area, at + status::STATE_AT, drive_state(fill));
+}
+
+// "code 14; action 16; function 18; LBA 40-47 the next sector, 0 with no fill"
+fn put_command(area: &mut [u8], at: usize, c: Command)
+    requires { ⌜ at + sectorSize ≤ length (now area) ⌝ }
+    ensures { λ _. ⌜ now (area .exit) ≡ stores (placed at (statusCommand (asCommand c []))) (now (area .entry)) ⌝ }
+{
+    put_u16(area, at + status::CODE_AT, c.code);
+    put_u16(area, at + status::ACTION_AT, c.action);
+    put_u16(area, at + status::FUNCTION_AT, c.function);
+    let fill = c.fill;
+    put_u64(area, at + status::LBA_AT, current_lba(fill));
+}
+
+// "temperatures at 200 (now), 202 (this power cycle), 204 (life)"
+fn put_temperatures(area: &mut [u8], at: usize, t: Thermal)
+    requires { ⌜ at + sectorSize ≤ length (now area) ⌝ }
+    ensures { λ _. ⌜ now (area .exit) ≡ stores (placed at (statusTemperatures (asThermal t []))) (now (area .entry)) ⌝ }
+{
+    put_u8(area, at + status::CURRENT_AT, t.current);
+    put_u8(area, at + status::CYCLE_MAXIMUM_AT, t.cycle_maximum);
+    put_u8(area, at + status::LIFE_MAXIMUM_AT, t.life_maximum);
+}
+
+// The status sector. "All else 0."
+pub fn put_status(area: &mut [u8], at: usize, reply: Reply, d: Device)
+    requires { ⌜ at + mailboxSize ≤ length (now area) ⌝ }
+    ensures { λ _. ⌜ ((h : List ℕ) → now (area .exit) ≡ sets (now (area .entry)) at (replyBytes (asRegisters reply) (statusSector (asDevice d h)))) ⌝ }
+{
+    put_reply(area, at, reply);
+    let c = d.command;
+    let fill = c.fill;
+    put_head(area, at + REGISTERS, d.initialized, fill);
+    put_command(area, at + REGISTERS, c);
+    let t = d.thermal;
+    put_temperatures(area, at + REGISTERS, t);
+}
+
+// The temperature table: "A table is sent as it stands at the E1h read." It is the record's second half.
+pub fn put_table(area: &mut [u8], at: usize, reply: Reply, device: &[u8])
+    requires { ⌜ (at + mailboxSize ≤ length (now area)) × (recordSize ≤ length (now device)) ⌝ }
+    ensures { λ _. ⌜ now (area .exit) ≡ sets (now (area .entry)) at (replyBytes (asRegisters reply) (part (now (device .entry)) headSize sectorSize)) ⌝ }
+{
+    put_registers(area, at, reply);
+    copy_part(area, at + REGISTERS, device, TABLE_AT, SECTOR);
+}
+
+// The sector of the disk at an LBA.
+pub fn put_sector(area: &mut [u8], at: usize, reply: Reply, disk: &[u8], lba: u64)
+    requires { ⌜ (at + mailboxSize ≤ length (now area)) × (sectorSize * lba + sectorSize ≤ length (now disk)) ⌝ }
+    ensures { λ _. ⌜ now (area .exit) ≡ sets (now (area .entry)) at (replyBytes (asRegisters reply) (part (now (disk .entry)) (sectorSize * lba) sectorSize)) ⌝ }
+{
+    put_registers(area, at, reply);
+    copy_part(
+        area,
+        at + REGISTERS,
+        disk,
+        (SECTOR_U64 * lba) as usize,
+        SECTOR,
+    );
+}

@@ -1,0 +1,74 @@
+-- `sct_disk::ports::sct_give` meets its contract.
+use mathlib.Core.Path.{refl}
+use native.Mathlib.Omega.{arith}
+use Rattle.wire.proofs.PartsLaws.{length-part, sets-whole}
+use Rattle.model.specs.Sizes.{mailboxSize}
+use Rattle.store.specs.Record.{empty}
+use Rattle.store.specs.Entries.{isAnswered}
+use Rattle.store.specs.Areas.{slotPlace}
+use Rattle.refusals.proofs.CheckLaws.{MailboxPassed, mailbox-passed}
+use Rattle.sct_disk.proofs.StepExits.{sound-stage, give-refused, give-done}
+use borrow.Author.Needs.{needs}
+use Rattle.sct_disk.proofs.ports.sct_give.Statement.{statement}
+use Rattle.sct_disk.proofs.ports.sct_give.Tie as tie
+
+-- what the checks say where none failed
+passed : (c : tie.Else1) → let a = c .before .before .before .before .before .before .args in MailboxPassed (a .device .now) (a .port) (a .mailbox .now) (a .area .now)
+passed c =
+    let a = c .before .before .before .before .before .before .args in
+    mailbox-passed isAnswered (a .device .now) (a .port) (a .mailbox .now) (a .area .now) (c .before .mailbox-refusal .ensures (a .mailbox .now) (a .area .now) refl refl) (c .if1 .left)
+
+mailbox-refusal-requires : tie.Need-mailbox-refusal-requires
+mailbox-refusal-requires c κs = search needs
+
+same-length : tie.Need-same-length
+same-length c = search needs
+
+returns : tie.Need-returns
+returns c =
+    let at-mailbox-refusal = c .before in
+    let entry = at-mailbox-refusal .before .before .before .before .before in
+    let a = entry .args in
+    rw (give-refused (a .device .now) (a .port) (a .mailbox .now) (a .area .now) (at-mailbox-refusal .mailbox-refusal .result) (at-mailbox-refusal .mailbox-refusal .ensures (a .mailbox .now) (a .area .now) refl refl) (c .if1 .taken)) (refl, (refl, refl))
+
+mul-copy-part : tie.Need-mul-copy-part
+mul-copy-part c = search needs
+
+copy-part-requires : tie.Need-copy-part-requires
+copy-part-requires c κs = omega (arith, passed (c .before))
+
+put-stage-requires : tie.Need-put-stage-requires
+put-stage-requires c κs =
+    let ok = passed (c .before .before .before .before .before) in (ok .recordSized, ok .port)
+
+same-length-2 : tie.Need-same-length-2
+same-length-2 c = search needs
+
+same-length-3 : tie.Need-same-length-3
+same-length-3 c = search needs
+
+returns-2 : tie.Need-returns-2
+returns-2 c =
+    let at-put-stage = c .before .before in
+    let at-copy-part = at-put-stage .before .before .before .before in
+    let at-if1 = at-copy-part .before .before in
+    let at-mailbox-refusal = at-if1 .before in
+    let entry = at-mailbox-refusal .before .before .before .before .before in
+    let a = entry .args in
+    let ok = passed at-if1 in
+    rw (give-done (a .device .now) (a .port) (a .mailbox .now) (a .area .now) (at-mailbox-refusal .mailbox-refusal .result) (at-mailbox-refusal .mailbox-refusal .ensures (a .mailbox .now) (a .area .now) refl refl) (at-if1 .if1 .left))
+    (refl, (rw (at-put-stage .put-stage .ensures) (sound-stage (a .device .now) (a .port) empty (ok .isSound) (ok .port)), rw (at-copy-part .copy-part .ensures) (sets-whole _ (a .mailbox .now) mailboxSize (length-part (a .area .now) (slotPlace (a .port)) mailboxSize (omega (arith, ok))) (ok .mailboxSized))))
+
+pub sct-give-spec : {M : Type 1} → statement M
+sct-give-spec =
+    tie.close
+    (tie.spec
+    mailbox-refusal-requires
+    same-length
+    returns
+    mul-copy-part
+    copy-part-requires
+    put-stage-requires
+    same-length-2
+    same-length-3
+    returns-2)

@@ -1,0 +1,59 @@
+// The steps of a port: take, serve, give.
+use layout::MAILBOX;
+use record::Stage;
+use refusals::mailbox_refusal;
+use refusals::serve_refusal;
+use refusals::visible_len;
+ghost use mathlib.Core.Path.{_≡_};
+ghost use Rattle.store.specs.Entries.{takeBytes, serveBytes, giveBytes};
+
+// "Take (port): copies the mailbox into the port's slot. Slot goes from empty to held."
+#[no_mangle]
+pub extern "C" fn sct_take(device: &mut [u8], port: u32, mailbox: &[u8], area: &mut [u8]) -> u32
+    ensures { λ n. ⌜ n ≡ takeBytes (now (device .entry)) port (now (mailbox .entry)) (now (area .entry)) .answer ⌝ }
+    ensures device { λ _. ⌜ now (device .exit) ≡ takeBytes (now (device .entry)) port (now (mailbox .entry)) (now (area .entry)) .recordArea ⌝ }
+    ensures area { λ _. ⌜ now (area .exit) ≡ takeBytes (now (device .entry)) port (now (mailbox .entry)) (now (area .entry)) .privateArea ⌝ }
+{
+    let refusal = mailbox_refusal(device, port, mailbox.len(), area.len(), Stage::Empty);
+    if refusal != 0 {
+        return refusal;
+    }
+    let p = port as usize;
+    runs::copy_part(area, MAILBOX * p, mailbox, 0, MAILBOX);
+    record_write::put_stage(device, p, Stage::Held);
+    0
+}
+
+// "Serve (port): answers the held request from the slot alone and leaves the reply in the slot. Held to answered."
+#[no_mangle]
+pub extern "C" fn sct_serve(device: &mut [u8], port: u32, area: &mut [u8], disk: &mut [u8]) -> u32
+    ensures { λ n. ⌜ n ≡ serveBytes (now (device .entry)) port (now (area .entry)) (now (disk .entry)) .answer ⌝ }
+    ensures device { λ _. ⌜ now (device .exit) ≡ serveBytes (now (device .entry)) port (now (area .entry)) (now (disk .entry)) .recordArea ⌝ }
+    ensures area { λ _. ⌜ now (area .exit) ≡ serveBytes (now (device .entry)) port (now (area .entry)) (now (disk .entry)) .privateArea ⌝ }
+    ensures disk { λ _. ⌜ now (disk .exit) ≡ serveBytes (now (device .entry)) port (now (area .entry)) (now (disk .entry)) .disk ⌝ }
+{
+    let refusal = serve_refusal(device, port, area.len(), disk.len());
+    if refusal != 0 {
+        return refusal;
+    }
+    let visible = visible_len(device);
+    serve_request::serve(device, area, &mut disk[..visible], port as usize);
+    0
+}
+
+// "Give (port): writes all 528 reply bytes to the mailbox. Answered to empty; the slot's bytes stay."
+#[no_mangle]
+pub extern "C" fn sct_give(device: &mut [u8], port: u32, mailbox: &mut [u8], area: &[u8]) -> u32
+    ensures { λ n. ⌜ n ≡ giveBytes (now (device .entry)) port (now (mailbox .entry)) (now (area .entry)) .answer ⌝ }
+    ensures device { λ _. ⌜ now (device .exit) ≡ giveBytes (now (device .entry)) port (now (mailbox .entry)) (now (area .entry)) .recordArea ⌝ }
+    ensures mailbox { λ _. ⌜ now (mailbox .exit) ≡ giveBytes (now (device .entry)) port (now (mailbox .entry)) (now (area .entry)) .mailbox ⌝ }
+{
+    let refusal = mailbox_refusal(device, port, mailbox.len(), area.len(), Stage::Answered);
+    if refusal != 0 {
+        return refusal;
+    }
+    let p = port as usize;
+    runs::copy_part(mailbox, 0, area, MAILBOX * p, MAILBOX);
+    record_write::put_stage(device, p, Stage::Empty);
+    0
+}

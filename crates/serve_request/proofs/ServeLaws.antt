@@ -1,0 +1,86 @@
+-- A slot served: the request decided of the record's device, and performed.
+use mathlib.Core.Path.{_≡_, sym, ap, _∙_, subst}
+use mathlib.Core.List.{List}
+use Prim.Native.Nat.{ℕ, _*_, _≤_}
+use native.Mathlib.Omega.{arith}
+use lib.ListN.{length}
+use Rattle.wire.specs.Bytes.{Bytes}
+use Rattle.model.specs.Sizes.{sectorSize}
+use Rattle.model.specs.Device.{Device}
+use Rattle.model.specs.Registers.{Request, requestOf}
+use Rattle.model.specs.Decide.{Serving, Decision, decideRequest, decide}
+use Rattle.model.proofs.ValidRequest.{WritingValid, SendingValid, DecisionValid, request-valid}
+use Rattle.store.specs.Record.{Contents, decode}
+use Rattle.store.specs.Store.{slotBytes}
+use Rattle.store.proofs.SoundLaws.{sound-valid}
+use Rattle.store.proofs.FollowLaws.{slot-sized}
+use Rattle.record.specs.declared.device as device
+use Rattle.record.specs.DeviceMeaning.{asContents, stagesOf, historyOf}
+use Rattle.record_write.proofs.FramedLaws.{sound-framed}
+use Rattle.device_update.proofs.ChangeLaws.{four-slots}
+use Rattle.decision.specs.declared.decision as code
+use Rattle.decision.specs.declared.decision.Writing.the-variants as writes
+use Rattle.decision.specs.declared.decision.Sending.the-variants as sends
+use Rattle.decision.specs.DecisionMeaning.{asWriting, asSending, asDecision, Decided}
+use Rattle.effect.specs.Effects.{WritesWithin, SendsWithin}
+use Rattle.serve_request.specs.Served.{served, Served, Performable, Entered}
+
+-- "1 ≤ V"
+pub entered-visible : (r a : List ℕ) (p : ℕ) (d : device.Device.Device) → Entered r a p → Bytes r → asContents d (historyOf r) ≡ decode r → 1 ≤ d .visible
+entered-visible r a p d e b says =
+    let v = sound-valid r b (e .soundRecord) .device .sizes .0 in
+    let same = ap (λ (c : Contents). c .device .visible) says in
+    omega (arith, v, same)
+
+-- sectors below V lie within the visible disk
+writes-within : (d : Device) (w : code.Writing.Writing) (m disk : List ℕ) → length disk ≡ sectorSize * d .visible → WritingValid d (asWriting w m) → WritesWithin (length disk) w
+writes-within d writes.Nothing m disk size v = tt
+writes-within d (writes.Sector lba) m disk size v = omega (arith, size, v .0)
+writes-within d (writes.PatternFill first end) m disk size v = tt
+writes-within d (writes.DataFill first end) m disk size v = tt
+
+sends-within : (visible : ℕ) (x : code.Sending.Sending) (disk : List ℕ) → length disk ≡ sectorSize * visible → SendingValid visible (asSending x) → SendsWithin (length disk) x
+sends-within visible sends.Nothing disk size v = tt
+sends-within visible sends.Status disk size v = tt
+sends-within visible sends.Temperatures disk size v = tt
+sends-within visible (sends.Sector lba) disk size v = omega (arith, size, v)
+
+module _ (r a disk : List ℕ) (p : ℕ) (d : device.Device.Device) (q : Request) (k : code.Decision.Decision) (entered : Entered r a p)
+    (says : asContents d (historyOf r) ≡ decode r) (decides : Decided (slotBytes p a) (decideRequest q (record { port = p }) (slotBytes p a)) d k) where
+  abbrev m : List ℕ
+  m = slotBytes p a
+
+  abbrev serving : Serving
+  serving = record { port = p }
+
+  -- what is decided is the model's decision of the request q
+  decided : asDecision k m (historyOf r) ≡ decideRequest q serving m (decode r .device)
+  decided = decides .same (historyOf r) ∙ ap (λ (c : Contents). decideRequest q serving m (c .device)) says
+
+  -- whatever the request
+  pub performable : Bytes r → Bytes a → length disk ≡ sectorSize * decode r .device .visible → Performable r a disk p k
+  performable rb ab size =
+      let valid = request-valid q serving m (decode r .device) (sound-valid r rb (entered .soundRecord) .device) (slot-sized a p (record { size = entered .size; bytes = ab }) (entered .port)) in
+      let dv : DecisionValid (decode r .device) (asDecision k m (historyOf r)) = subst (λ (c : Decision). DecisionValid (decode r .device) c) (sym decided) valid in
+      let sized : length disk ≡ sectorSize * k .device .visible = size ∙ ap (λ (v : ℕ). sectorSize * v) (sym (dv .sameSizes .1)) in
+      record {
+        framed = sound-framed r rb (entered .soundRecord);
+        size = entered .size;
+        port = entered .port;
+        four = decides .four ∙ four-slots d (historyOf r) r says;
+        writesWithin = writes-within (asDecision k m (historyOf r) .device) (k .writes) m disk sized (dv .effectValid .0);
+        sendsWithin = sends-within (k .device .visible) (k .sends) disk sized (dv .effectValid .1);
+      }
+
+  -- THE LAW of a slot served
+  pub serves : q ≡ requestOf m → (newRecord b newDisk : List ℕ) → Served p (asDecision k m (historyOf r)) (stagesOf (k .device .slots)) a disk newRecord b newDisk
+      → Served p (decide serving m (decode r .device)) (decode r .stages) a disk newRecord b newDisk
+  unfolding decide
+  serves asked newRecord b newDisk s =
+      let same : asDecision k m (historyOf r) ≡ decideRequest (requestOf m) serving m (decode r .device) = decided ∙ ap (λ (x : Request). decideRequest x serving m (decode r .device)) asked in
+      let stages : stagesOf (k .device .slots) ≡ decode r .stages = decides .stages ∙ ap (λ (c : Contents). c .stages) says in
+      record {
+        recordBytes = s .recordBytes ∙ (λ i. served p (same i) (stages i) a disk .recordArea);
+        areaBytes = s .areaBytes ∙ (λ i. served p (same i) (stages i) a disk .privateArea);
+        diskBytes = s .diskBytes ∙ (λ i. served p (same i) (stages i) a disk .disk);
+      }

@@ -1,0 +1,73 @@
+-- `serve_request::serving::serve` meets its contract.
+use native.Mathlib.Omega.{arith}
+use Rattle.store.proofs.SoundLaws.{sound-parts}
+use Rattle.request.specs.RequestMeaning.{asRequest}
+use Rattle.device_update.proofs.ChangeLaws.{four-slots}
+use Rattle.serve_request.proofs.ServeLaws.{entered-visible, performable, serves}
+use borrow.Author.Needs.{needs}
+use Rattle.serve_request.proofs.serving.serve.Statement.{statement}
+use Rattle.serve_request.proofs.serving.serve.Tie as tie
+
+decode-requires : tie.Need-decode-requires
+decode-requires c κs =
+    let entry = c .before .before .before .before in
+    sound-parts (entry .args .device .now) (entry .pre .0 .soundRecord) .size
+
+mul-request-of : tie.Need-mul-request-of
+mul-request-of c = search needs
+
+request-of-requires : tie.Need-request-of-requires
+request-of-requires c κs = search needs
+
+decide-requires : tie.Need-decide-requires
+decide-requires c κs =
+    let at-decode = c .before .before .before in
+    let known = at-decode .before .before .before .before in
+    let entry = known .before in
+    let a = entry .args in
+    let e = entry .pre .0 in
+    (e .size, e .port, four-slots (at-decode .decode .result) _ (a .device .now) (at-decode .decode .ensures), entered-visible (a .device .now) (a .area .now) (a .p) (at-decode .decode .result) e (λ i. omega (arith, known .slice-known .given i)) (at-decode .decode .ensures))
+
+perform-requires : tie.Need-perform-requires
+perform-requires c κs =
+    let at-decide = c .before .before .before in
+    let at-request-of = at-decide .before .before in
+    let at-decode = at-request-of .before .before in
+    let known = at-decode .before .before .before in
+    let known-11 = known .before in
+    let entry = known-11 .before in
+    let a = entry .args in
+    performable (a .device .now) (a .area .now) (a .disk .now) (a .p) (at-decode .decode .result) (asRequest (at-request-of .request-of .result)) (at-decide .decide .result) (entry .pre .0) (at-decode .decode .ensures) (at-decide .decide .ensures) (λ i. omega (arith, known-11 .slice-known .given i)) (λ i. omega (arith, known .slice-known2 .given i)) (entry .pre .1)
+
+same-length : tie.Need-same-length
+same-length c = search needs
+
+same-length-2 : tie.Need-same-length-2
+same-length-2 c = search needs
+
+same-length-3 : tie.Need-same-length-3
+same-length-3 c = search needs
+
+returns : tie.Need-returns
+returns c =
+    let at-perform = c .before .before .before .before .before .before in
+    let at-decide = at-perform .before .before .before .before in
+    let at-request-of = at-decide .before .before in
+    let at-decode = at-request-of .before .before in
+    let entry = at-decode .before .before .before .before .before in
+    let a = entry .args in
+    serves (a .device .now) (a .area .now) (a .disk .now) (a .p) (at-decode .decode .result) (asRequest (at-request-of .request-of .result)) (at-decide .decide .result) (entry .pre .0) (at-decode .decode .ensures) (at-decide .decide .ensures) (at-request-of .request-of .ensures) _ _ _ (at-perform .perform .ensures)
+
+pub serve-spec : {M : Type 1} → statement M
+serve-spec =
+    tie.close
+    (tie.spec
+    decode-requires
+    mul-request-of
+    request-of-requires
+    decide-requires
+    perform-requires
+    same-length
+    same-length-2
+    same-length-3
+    returns)
