@@ -1,13 +1,13 @@
-// How the device changes, by value: a fill stopped, started and moved on (last.rt); lock and visible size (owner.rt).
-mod last;
+// How the device changes, by value: a fill stopped, started and moved on (command.rt); lock and visible size (owner.rt).
+mod command;
 mod owner;
 
-pub use last::interrupt;
-pub use last::sector_written;
-pub use last::start_fill;
-pub use last::with_code;
-pub use last::with_flag_cleared;
-pub use last::with_key;
-pub use last::with_pending;
+pub use command::interrupt;
+pub use command::sector_written;
+pub use command::start_fill;
+pub use command::with_code;
+pub use command::with_flag_cleared;
+pub use command::with_key;
+pub use command::with_pending;
 pub use owner::set_lock;
 pub use owner::set_visible;

@@ -1,5 +1,5 @@
 // Lock, unlock and visible size.
-use crate::last::interrupt;
+use crate::command::interrupt;
 use record::Device;
 ghost use mathlib.Core.Path.{_≡_};
 ghost use lib.ListN.{length};

@@ -35,7 +35,7 @@ pub fn read_refusal(native: u64, image: &[u8], used: usize) -> u32
     if !same_disk(native, image, used) {
         return answer::OTHER_DISK;
     }
-    0
+    answer::DONE
 }
 
 // Whether a save has room: fewer than 117 entries, and 560 more bytes of the buffer.
@@ -51,11 +51,11 @@ pub fn save_refusal(native: u64, image: &[u8], used: usize) -> u32
     ensures { λ r. ⌜ r ≡ firstFailed (saveChecks native (now (image .entry)) used) ⌝ }
 {
     let n = read_refusal(native, image, used);
-    if n != 0 {
+    if n != answer::DONE {
         return n;
     }
     if !has_room(image, used) {
         return answer::IMAGE_FULL;
     }
-    0
+    answer::DONE
 }

@@ -31,11 +31,11 @@ pub fn save(device: &[u8], image: &mut [u8], used: u64) -> u32
 {
     let at = used as usize;
     let refusal = save_refusal(device, image, at);
-    if refusal != 0 {
+    if refusal != answer::DONE {
         return refusal;
     }
     save::put_entry(image, at, device);
-    0
+    answer::DONE
 }
 
 // Whether a disk of this length is 1 to 65,536 whole sectors.
@@ -75,10 +75,10 @@ pub fn power_on(device: &mut [u8], area: &mut [u8], disk: &[u8], image: &[u8], u
 {
     let at = used as usize;
     let refusal = power_on_refusal(device.len(), area.len(), disk.len(), image, at);
-    if refusal != 0 {
+    if refusal != answer::DONE {
         return refusal;
     }
     runs::zero_part(area, 0, PRIVATE);
     restore::put_restored(device, (disk.len() / SECTOR) as u64, image, at);
-    0
+    answer::DONE
 }

@@ -51,6 +51,8 @@ pub const STATUS_GOOD: u8 = 0x50;
 
 pub const STATUS_REFUSED: u8 = 0x51;
 
+pub const NO_ERROR: u8 = 0;
+
 pub const ERROR_ABORTED: u8 = 0x04;
 
 pub const ERROR_NOT_FOUND: u8 = 0x10;

@@ -17,7 +17,7 @@ fn put_lock(device: &mut [u8], locked: bool) -> u32
     let d = record::decode(device);
     let e = device_update::set_lock(d, locked);
     record_write::write(device, e);
-    0
+    answer::DONE
 }
 
 pub fn lock(device: &mut [u8]) -> u32
@@ -45,7 +45,7 @@ fn visible_refusal(device: &[u8], v: u64) -> u32
     if !((1 <= v) & (v <= native)) {
         return answer::BAD_VALUE;
     }
-    0
+    answer::DONE
 }
 
 pub fn set_visible(device: &mut [u8], v: u64) -> u32
@@ -53,13 +53,13 @@ pub fn set_visible(device: &mut [u8], v: u64) -> u32
     ensures device { λ _. ⌜ now (device .exit) ≡ setVisibleBytes (now (device .entry)) v .recordArea ⌝ }
 {
     let refusal = visible_refusal(device, v);
-    if refusal != 0 {
+    if refusal != answer::DONE {
         return refusal;
     }
     let d = record::decode(device);
     let e = device_update::set_visible(d, v);
     record_write::write(device, e);
-    0
+    answer::DONE
 }
 
 pub fn sample(device: &mut [u8], reading: u8) -> u32
@@ -70,5 +70,5 @@ pub fn sample(device: &mut [u8], reading: u8) -> u32
         return answer::BAD_RECORD;
     }
     temperature::sample(device, reading);
-    0
+    answer::DONE
 }

@@ -54,7 +54,7 @@ fn slot_refusal(device: &[u8], port: u32, needed: Stage) -> u32
     if !is_stage(needed, record::stage_at(device, port as usize)) {
         return answer::BAD_STAGE;
     }
-    0
+    answer::DONE
 }
 
 // The checks of take and give. They see the sizes of mailbox and private area, not their bytes.
@@ -108,7 +108,7 @@ pub fn work_refusal(device: &[u8], area_len: usize, disk_len: usize) -> u32
     if !is_disk(device, disk_len) {
         return answer::BAD_LENGTH;
     }
-    0
+    answer::DONE
 }
 
 // The checks of serve: those of work, then port and stage.
@@ -116,7 +116,7 @@ pub fn serve_refusal(device: &[u8], port: u32, area_len: usize, disk_len: usize)
     ensures { λ n. ⌜ ((a sectors : List ℕ) → length a ≡ «area_len» → length sectors ≡ «disk_len» → n ≡ firstFailed (serveChecks (now (device .entry)) port a sectors)) ⌝ }
 {
     let refusal = work_refusal(device, area_len, disk_len);
-    if refusal != 0 {
+    if refusal != answer::DONE {
         return refusal;
     }
     slot_refusal(device, port, Stage::Held)

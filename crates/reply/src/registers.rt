@@ -30,7 +30,7 @@ pub fn good(value: u16, sectors: u8) -> Reply
 {
     Reply {
         status: ata::STATUS_GOOD,
-        error: 0,
+        error: ata::NO_ERROR,
         value,
         sectors,
     }

@@ -50,7 +50,7 @@ pub fn data_code(locked: bool, dir: Direction, count: u16, pending: Transfer) ->
     if count != sectors_of(pending) {
         return sct::COUNT_OVERFLOW;
     }
-    0
+    sct::COMPLETE
 }
 
 // "Count (16 bits) other than 1: Error 04h. LBA at or above V: Error 10h. Locked: Error 04h, before both." 0 where nothing fails.
@@ -66,5 +66,5 @@ pub fn sector_error(locked: bool, visible: u64, count: u16, lba: u64) -> u8
     if lba >= visible {
         return ata::ERROR_NOT_FOUND;
     }
-    0
+    ata::NO_ERROR
 }

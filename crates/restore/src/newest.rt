@@ -4,6 +4,7 @@ use layout::ENTRY;
 use layout::HISTORY;
 use layout::MISSING;
 use layout::entry;
+use layout::sct;
 use layout::table;
 use record::Command;
 use record::Device;
@@ -85,7 +86,7 @@ fn powered(
         locked: false,
         initialized,
         command: Command {
-            code: 0,
+            code: sct::COMPLETE,
             action: 0,
             function: 0,
             fill: Fill::Idle,

@@ -1,5 +1,6 @@
 // The steps of a port: take, serve, give.
 use layout::MAILBOX;
+use layout::answer;
 use record::Stage;
 use refusals::mailbox_refusal;
 use refusals::serve_refusal;
@@ -15,13 +16,13 @@ pub extern "C" fn sct_take(device: &mut [u8], port: u32, mailbox: &[u8], area: &
     ensures area { λ _. ⌜ now (area .exit) ≡ takeBytes (now (device .entry)) port (now (mailbox .entry)) (now (area .entry)) .privateArea ⌝ }
 {
     let refusal = mailbox_refusal(device, port, mailbox.len(), area.len(), Stage::Empty);
-    if refusal != 0 {
+    if refusal != answer::DONE {
         return refusal;
     }
     let p = port as usize;
     runs::copy_part(area, MAILBOX * p, mailbox, 0, MAILBOX);
     record_write::put_stage(device, p, Stage::Held);
-    0
+    answer::DONE
 }
 
 // "Serve (port): answers the held request from the slot alone and leaves the reply in the slot. Held to answered."
@@ -33,12 +34,12 @@ pub extern "C" fn sct_serve(device: &mut [u8], port: u32, area: &mut [u8], disk:
     ensures disk { λ _. ⌜ now (disk .exit) ≡ serveBytes (now (device .entry)) port (now (area .entry)) (now (disk .entry)) .disk ⌝ }
 {
     let refusal = serve_refusal(device, port, area.len(), disk.len());
-    if refusal != 0 {
+    if refusal != answer::DONE {
         return refusal;
     }
     let visible = visible_len(device);
     serve_request::serve(device, area, &mut disk[..visible], port as usize);
-    0
+    answer::DONE
 }
 
 // "Give (port): writes all 528 reply bytes to the mailbox. Answered to empty; the slot's bytes stay."
@@ -49,11 +50,11 @@ pub extern "C" fn sct_give(device: &mut [u8], port: u32, mailbox: &mut [u8], are
     ensures mailbox { λ _. ⌜ now (mailbox .exit) ≡ giveBytes (now (device .entry)) port (now (mailbox .entry)) (now (area .entry)) .mailbox ⌝ }
 {
     let refusal = mailbox_refusal(device, port, mailbox.len(), area.len(), Stage::Answered);
-    if refusal != 0 {
+    if refusal != answer::DONE {
         return refusal;
     }
     let p = port as usize;
     runs::copy_part(mailbox, 0, area, MAILBOX * p, MAILBOX);
     record_write::put_stage(device, p, Stage::Empty);
-    0
+    answer::DONE
 }

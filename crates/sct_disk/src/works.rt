@@ -1,4 +1,5 @@
 // The work step.
+use layout::answer;
 use refusals::visible_len;
 use refusals::work_refusal;
 ghost use mathlib.Core.Path.{_≡_};
@@ -25,10 +26,10 @@ pub extern "C" fn sct_work(device: &mut [u8], area: &[u8], disk: &mut [u8], n: u
     ensures disk { λ _. ⌜ now (disk .exit) ≡ workBytes (now (device .entry)) (now (area .entry)) (now (disk .entry)) n .disk ⌝ }
 {
     let refusal = work_refusal(device, area.len(), disk.len());
-    if refusal != 0 {
+    if refusal != answer::DONE {
         return result_of(refusal, 0);
     }
     let visible = visible_len(device);
     let count = fill::work(device, area, &mut disk[..visible], n);
-    result_of(0, count)
+    result_of(answer::DONE, count)
 }

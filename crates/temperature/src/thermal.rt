@@ -10,11 +10,14 @@ ghost use Rattle.model.specs.Sizes.{historySize};
 ghost use Rattle.model.specs.Temperature.{newMaximum, nextIndex};
 ghost use Rattle.temperature.specs.Sampled.{shifted, Sampled};
 
+// The sign bit of a two's complement byte.
+const SIGN: u8 = 0x80;
+
 // A two's complement byte, moved so that the order of the bytes is the order of the temperatures.
 fn shifted(b: u8) -> u8
     ensures { λ r. ⌜ r ≡ shifted b ⌝ }
 {
-    if b < 0x80 { b + 0x80 } else { b - 0x80 }
+    if b < SIGN { b + SIGN } else { b - SIGN }
 }
 
 // "A missing sample .. moves no maximum. A missing maximum takes the first real sample."

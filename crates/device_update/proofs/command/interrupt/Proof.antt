@@ -1,8 +1,8 @@
--- `device_update::last::interrupt` meets its contract.
+-- `device_update::command::interrupt` meets its contract.
 use borrow.Author.Needs.{needs}
 use Rattle.device_update.proofs.InterruptLaw.{interrupted}
-use Rattle.device_update.proofs.last.interrupt.Statement.{statement}
-use Rattle.device_update.proofs.last.interrupt.Tie as tie
+use Rattle.device_update.proofs.command.interrupt.Statement.{statement}
+use Rattle.device_update.proofs.command.interrupt.Tie as tie
 
 stopped-code-requires : tie.Need-stopped-code-requires
 stopped-code-requires c κs = search needs

@@ -1,8 +1,8 @@
--- `device_update::last::with_pending` meets its contract.
+-- `device_update::command::with_pending` meets its contract.
 use Rattle.device_update.proofs.FourSlots.{pending-set}
 use borrow.Author.Needs.{needs}
-use Rattle.device_update.proofs.last.with_pending.Statement.{statement}
-use Rattle.device_update.proofs.last.with_pending.Tie as tie
+use Rattle.device_update.proofs.command.with_pending.Statement.{statement}
+use Rattle.device_update.proofs.command.with_pending.Tie as tie
 
 mul-s : tie.Need-mul-s
 mul-s c = search needs

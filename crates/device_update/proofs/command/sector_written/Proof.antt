@@ -1,8 +1,8 @@
--- `device_update::last::sector_written` meets its contract.
+-- `device_update::command::sector_written` meets its contract.
 use mathlib.Core.Path.{refl}
 use borrow.Author.Tests.{eq-eqb, ne-eqb}
-use Rattle.device_update.proofs.last.sector_written.Statement.{statement}
-use Rattle.device_update.proofs.last.sector_written.Tie as tie
+use Rattle.device_update.proofs.command.sector_written.Statement.{statement}
+use Rattle.device_update.proofs.command.sector_written.Tie as tie
 
 returns : tie.Need-returns
 returns c =
