@@ -34,7 +34,7 @@ fn option_of(name: FeatureName, s: Settings) -> u16
     ensures { λ r. ⌜ r ≡ bit (feature (asFeatureName name) (asSettings s) .persistent) ⌝ }
 {
     let f = settings::feature(name, s);
-    if f.persistent { 1 } else { 0 }
+    wire::bit_of(f.persistent) as u16
 }
 
 // "Any set of feature 3 empties the temperature history."

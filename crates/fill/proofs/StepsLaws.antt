@@ -14,7 +14,7 @@ use Rattle.wire.specs.Bytes.{Bytes}
 use Rattle.wire.specs.Parts.{repeated}
 use Rattle.wire.proofs.PartsLaws.{length-part, length-repeated, sets-front}
 use Rattle.model.specs.Sizes.{sectorSize}
-use Rattle.model.specs.Device.{Fill, idle, running, Device}
+use Rattle.model.specs.Device.{Fill, idle, running, Device, nextSector}
 use Rattle.model.specs.Update.{withInitialized}
 use Rattle.model.specs.Valid.{FillValid}
 use Rattle.model.specs.Fill.{Volume, advanced, sectorStep, iterate, remaining, workCount, work}
@@ -22,7 +22,7 @@ use Rattle.model.proofs.WorkLaws.{steps-device, steps-disk}
 use Rattle.record.specs.declared.device as code
 use Rattle.record.specs.DeviceMeaning.{asFill, asDevice, asContents, historyOf}
 use Rattle.store.specs.Areas.{fillPlace, privateSize}
-use Rattle.store.specs.Record.{fillNext, Contents, decode, encode}
+use Rattle.store.specs.Record.{Contents, decode, encode}
 use Rattle.store.specs.Sound.{sound}
 use Rattle.store.specs.Store.{fillSectorOf}
 use Rattle.store.specs.Entries.{withDevice, workDone}
@@ -76,7 +76,7 @@ module _ (sector : List ℕ) (v : Volume) (whole : length sector ≡ sectorSize)
       go true t = rw (eqb-true k 0 t)
       go false t = let some = eqb-false k 0 t in let more : 0 < k = omega arith in steps-device first next end sector v e whole k more (omega arith)
 
-  steps-written : (f : Fill) (k : ℕ) → fill ≡ f → k ≤ remaining f → iterate k (sectorStep sector) v .disk .sectors ≡ sets (v .disk .sectors) (sectorSize * fillNext f) (repeated k sector)
+  steps-written : (f : Fill) (k : ℕ) → fill ≡ f → k ≤ remaining f → iterate k (sectorStep sector) v .disk .sectors ≡ sets (v .disk .sectors) (sectorSize * nextSector f) (repeated k sector)
   unfolding repeated
   steps-written idle k e h = let none : k ≡ 0 = omega arith in rw none
   steps-written (running first next end) k e h = go (decLt 0 k)
@@ -91,19 +91,19 @@ module _ (sector : List ℕ) (v : Volume) (whole : length sector ≡ sectorSize)
   work-device n = steps-moved fill (workCount n fill) refl (count-left n fill)
 
   -- .. and of its disk
-  pub work-sectors : (n : ℕ) → work n sector v .disk .sectors ≡ sets (v .disk .sectors) (sectorSize * fillNext fill) (repeated (workCount n fill) sector)
+  pub work-sectors : (n : ℕ) → work n sector v .disk .sectors ≡ sets (v .disk .sectors) (sectorSize * nextSector fill) (repeated (workCount n fill) sector)
   unfolding work
   work-sectors n = steps-written fill (workCount n fill) refl (count-left n fill)
 
 -- ---- on the bytes
 
 -- the sectors that a budget allows lie within the visible disk: "first ≤ next < end ≤ V"
-pub sectors-fit : (n : ℕ) (f : Fill) (visible : ℕ) → FillValid visible f → fillNext f + workCount n f ≤ visible
+pub sectors-fit : (n : ℕ) (f : Fill) (visible : ℕ) → FillValid visible f → nextSector f + workCount n f ≤ visible
 unfolding workCount
 sectors-fit n idle visible v = omega arith
 sectors-fit n (running first next end) visible v = omega (arith, v)
 
-sound-fit : (r : List ℕ) (n : ℕ) → Bytes r → sound r ≡ true → fillNext (decode r .device .command .fill) + workCount n (decode r .device .command .fill) ≤ decode r .device .visible
+sound-fit : (r : List ℕ) (n : ℕ) → Bytes r → sound r ≡ true → nextSector (decode r .device .command .fill) + workCount n (decode r .device .command .fill) ≤ decode r .device .visible
 sound-fit r n b s =
     sectors-fit n (decode r .device .command .fill) (decode r .device .visible) (sound-valid r b s .device .commandValid .fillValid)
 
@@ -115,7 +115,7 @@ module _ (r a disk : List ℕ) (n k : ℕ) (d e : code.Device.Device) (says : as
   same-fill = ap (λ (c : Contents). c .device .command .fill) says
 
   pub work-fits : Bytes r → sound r ≡ true → length disk ≡ sectorSize * decode r .device .visible
-      → sectorSize * (fillNext (asFill (d .command .fill)) + workCount n (asFill (d .command .fill))) ≤ length disk
+      → sectorSize * (nextSector (asFill (d .command .fill)) + workCount n (asFill (d .command .fill))) ≤ length disk
   work-fits b s size = let h = sound-fit r n b s in rw same-fill (omega (arith, h, size))
 
   pub worked-count : k ≡ workDone r a disk n .count
@@ -128,10 +128,10 @@ module _ (r a disk : List ℕ) (n k : ℕ) (d e : code.Device.Device) (says : as
       (changed-contents (movedOn k) d e (historyOf r) (decode r) says change
       ∙ ap (λ (x : Device). withDevice x (decode r)) (ap (λ (j : ℕ). movedOn j (decode r .device)) worked-count ∙ sym (work-device sector v whole n)))
 
-  pub worked-disk : length sector ≡ sectorSize → sets disk (sectorSize * fillNext (asFill (d .command .fill))) (repeated k sector) ≡ workDone r a disk n .disk
+  pub worked-disk : length sector ≡ sectorSize → sets disk (sectorSize * nextSector (asFill (d .command .fill))) (repeated k sector) ≡ workDone r a disk n .disk
   worked-disk whole =
       let v : Volume = record { device = decode r .device; disk = record { sectors = disk } } in
-      (λ i. sets disk (sectorSize * fillNext (same-fill i)) (repeated (worked-count i) sector)) ∙ sym (work-sectors sector v whole n)
+      (λ i. sets disk (sectorSize * nextSector (same-fill i)) (repeated (worked-count i) sector)) ∙ sym (work-sectors sector v whole n)
 
 -- ---- the hidden sectors
 
@@ -156,5 +156,5 @@ module _ (r a visible hidden : List ℕ) (n : ℕ) (whole : length a ≡ private
       let h = sound-fit r n b s in
       let long : length vs ≡ workCount n f * sectorSize = rw (length-repeated (workCount n f) (fillSectorOf a), sector-whole) in
       ap (λ (l : List ℕ). l ++ hidden) (work-sectors (fillSectorOf a) (part-of visible) sector-whole n)
-      ∙ sym (sets-front vs visible hidden (sectorSize * fillNext f) (omega (arith, h, size, long)))
+      ∙ sym (sets-front vs visible hidden (sectorSize * nextSector f) (omega (arith, h, size, long)))
       ∙ sym (work-sectors (fillSectorOf a) (part-of (visible ++ hidden)) sector-whole n)

@@ -15,7 +15,7 @@ ghost use Rattle.model.specs.Fill.{remaining, workCount};
 ghost use Rattle.record.specs.DeviceMeaning.{asFill};
 ghost use Rattle.store.specs.Areas.{privateSize};
 ghost use Rattle.store.specs.Store.{fillSectorOf};
-ghost use Rattle.store.specs.Record.{fillNext, decode};
+ghost use Rattle.store.specs.Record.{decode};
 ghost use Rattle.store.specs.Sound.{sound};
 ghost use Rattle.store.specs.Entries.{workDone};
 ghost use Rattle.device_update.specs.Change.{Changed};
@@ -44,16 +44,6 @@ fn count_of(n: u32, fill: Fill) -> u32
 {
     let left = remaining(fill);
     if left < n as u64 { left as u32 } else { n }
-}
-
-// The sector that a fill writes next, 0 with no fill.
-fn next_of(fill: Fill) -> u64
-    ensures { λ r. ⌜ r ≡ fillNext (asFill fill) ⌝ }
-{
-    match fill {
-        Fill::Idle => 0,
-        Fill::Running(_, next, _) => next,
-    }
 }
 
 // Writes the fill's sector to the k places from `next` on.
@@ -97,7 +87,7 @@ pub fn work(device: &mut [u8], area: &[u8], disk: &mut [u8], n: u32) -> u32
     let c = d.command;
     let fill = c.fill;
     let k = count_of(n, fill);
-    write_sectors(disk, area, next_of(fill), k);
+    write_sectors(disk, area, record::next_sector(fill), k);
     let e = moved_on(d, k);
     record_write::write(device, e);
     k

@@ -6,7 +6,6 @@ use layout::HISTORY_U16;
 use layout::NATIVE_LIMIT;
 use layout::TRAILER_U32;
 use layout::entry;
-use layout::sct;
 ghost use mathlib.Core.Path.{_≡_};
 ghost use Prim.Native.Nat.{_+_, _*_, _≤_};
 ghost use lib.ListN.{length};
@@ -40,9 +39,7 @@ fn values_in_range(image: &[u8], at: usize) -> bool
     let index = wire::u16_at(image, at + entry::INDEX_AT);
     ((1 <= native) & (native <= NATIVE_LIMIT))
         & ((1 <= visible) & (visible <= native))
-        & ((1 <= cache) & (cache <= sct::WRITE_CACHE_LIMIT))
-        & ((1 <= reordering) & (reordering <= sct::REORDERING_LIMIT))
-        & ((1 <= interval) & (interval <= sct::LOG_INTERVAL_LIMIT))
+        & record_check::states_named(cache, reordering, interval)
         & (index < HISTORY_U16)
 }
 

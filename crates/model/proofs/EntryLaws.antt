@@ -18,7 +18,8 @@ use Rattle.wire.proofs.PartsLaws.{length-part, part-part, get-part, part-append
 use Rattle.wire.proofs.LayoutLaws.{length-form, reads-form, reads-front}
 use Rattle.wire.proofs.BytesLaws.{bytes-nil, bytes-cons, bytes-append, bytes-form, bytes-part, get-fits, same-refl}
 use Rattle.model.specs.Sizes.{sectorSize, nativeLimit, historySize, bodySize, trailerSize}
-use Rattle.model.specs.Key.{highestState}
+use Rattle.model.specs.Key.{statesNamed}
+use Rattle.model.proofs.StateLaws.{states-ranges, ranges-states}
 use Rattle.model.specs.Temperature.{tableIndexPlace, tableHeadSize, tableFields, tableBytes}
 use Rattle.model.specs.Image.{Saved, nativePlace, visiblePlace, flagPlace, lifePlace, cachePlace, reorderingPlace, intervalPlace, optionsPlace, headSize, headFields, bodyBytes, hasBit, savedAt, savedIn, inRange, bodyHolds, tag, tagPlace, trailerFields, trailerBytes, alike}
 use Rattle.model.specs.Valid.{StateValid}
@@ -196,17 +197,15 @@ unfolding inRange
 range-parts s h =
     let native = between 1 (s .native) nativeLimit in
     let visible = between 1 (s .visible) (s .native) in
-    let first = between 1 (s .writeCache .state) (highestState 1) in
-    let second = between 1 (s .reordering .state) (highestState 2) in
-    let third = between 1 (s .logInterval .state) (highestState 3) in
-    let last = and-three (native && visible && first && second) third (ltb (s .index) historySize) h in
-    let middle = and-three (native && visible) first second (last .0) in
+    let named = statesNamed (s .writeCache .state) (s .reordering .state) (s .logInterval .state) in
+    let last = and-three (native && visible) named (ltb (s .index) historySize) h in
+    let states = states-ranges (s .writeCache .state) (s .reordering .state) (s .logInterval .state) (last .1) in
     record {
-      native = between-true 1 (s .native) nativeLimit (and-left native visible (middle .0));
-      visible = between-true 1 (s .visible) (s .native) (and-right native visible (middle .0));
-      writeCache = between-true 1 (s .writeCache .state) (highestState 1) (middle .1);
-      reordering = between-true 1 (s .reordering .state) (highestState 2) (middle .2);
-      logInterval = between-true 1 (s .logInterval .state) (highestState 3) (last .1);
+      native = between-true 1 (s .native) nativeLimit (and-left native visible (last .0));
+      visible = between-true 1 (s .visible) (s .native) (and-right native visible (last .0));
+      writeCache = states .0;
+      reordering = states .1;
+      logInterval = states .2;
       index = ltb-true (s .index) historySize (last .2);
     }
 
@@ -216,9 +215,7 @@ parts-range s r =
     rw (
       between-within 1 (s .native) nativeLimit (r .native .0) (r .native .1),
       between-within 1 (s .visible) (s .native) (r .visible .0) (r .visible .1),
-      between-within 1 (s .writeCache .state) (highestState 1) (r .writeCache .0) (r .writeCache .1),
-      between-within 1 (s .reordering .state) (highestState 2) (r .reordering .0) (r .reordering .1),
-      between-within 1 (s .logInterval .state) (highestState 3) (r .logInterval .0) (r .logInterval .1),
+      ranges-states (s .writeCache .state) (s .reordering .state) (s .logInterval .state) (r .writeCache) (r .reordering) (r .logInterval),
       lt-ltb (s .index) historySize (r .index),
     )
 

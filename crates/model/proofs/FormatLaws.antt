@@ -19,8 +19,8 @@ use Rattle.wire.proofs.PartsLaws.{part-append-right, length-padded, length-zero
 use Rattle.wire.proofs.LayoutLaws.{length-form, reads-form, reads-front, form-outside}
 use Rattle.wire.proofs.BytesLaws.{bytes-append, bytes-form, bytes-padded}
 use Rattle.model.specs.Sizes.{sectorSize, nativeLimit, registersSize, mailboxSize, historySize, dataSize}
-use Rattle.model.specs.Device.{Fill, idle, running, Device}
-use Rattle.model.specs.Status.{driveState, currentLba, statusFields, statusSector}
+use Rattle.model.specs.Device.{Fill, idle, running, Device, nextSector}
+use Rattle.model.specs.Status.{driveState, statusFields, statusSector}
 use Rattle.model.specs.Temperature.{tableFields, tableHeadSize, tableBytes}
 use Rattle.model.specs.Registers.{Registers, registersFields, registersBytes, replyBytes}
 use Rattle.model.specs.Valid.{FillValid, Valid, Sized}
@@ -54,7 +54,7 @@ pub record StatusAt (d : Device) (s : List ℕ) : Type 0 where
   pub code : get 2 s 14 ≡ d .command .code
   pub action : get 2 s 16 ≡ d .command .action
   pub function : get 2 s 18 ≡ d .command .function
-  pub lba : get 8 s 40 ≡ currentLba (d .command .fill)
+  pub lba : get 8 s 40 ≡ nextSector (d .command .fill)
   pub current : get 1 s 200 ≡ d .thermal .current
   pub cycle : get 1 s 202 ≡ d .thermal .cycleMaximum
   pub life : get 1 s 204 ≡ d .thermal .lifeMaximum
@@ -62,7 +62,7 @@ pub record StatusAt (d : Device) (s : List ℕ) : Type 0 where
   pub rest : (i : ℕ) → outside statusPlaces i ≡ true → getD s i 0 ≡ 0
   pub size : length s ≡ sectorSize
 
-next-fits : (d : Device) (f : Fill) → FillValid (d .visible) f → d .visible ≤ nativeLimit → currentLba f < 256 ^ 8
+next-fits : (d : Device) (f : Fill) → FillValid (d .visible) f → d .visible ≤ nativeLimit → nextSector f < 256 ^ 8
 next-fits d idle v h = omega arith
 next-fits d (running first next end) v h = omega arith
 

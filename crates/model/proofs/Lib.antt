@@ -21,6 +21,7 @@ pub mod OwnerLaws
 pub mod WorkLaws
 pub mod ValidDevice
 pub mod ValidRequest
+pub mod StateLaws
 pub mod EntryLaws
 pub mod EntryFormat
 pub mod ImageLaws

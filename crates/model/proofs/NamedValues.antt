@@ -5,9 +5,9 @@ use Prim.Native.Nat.{ℕ, _+_}
 use native.Mathlib.Omega.{arith}
 use mathlib.Core.List.{List, [], _∷_}
 use Rattle.model.specs.Sizes.{sectorSize, portCount, registersSize, mailboxSize, historySize, missing, powerOnTimer, bodySize, trailerSize, entrySize}
-use Rattle.model.specs.Device.{idle, running, none, table, fillData, Device}
+use Rattle.model.specs.Device.{idle, running, none, table, fillData, Device, nextSector}
 use Rattle.model.specs.Registers.{Direction, read, write, Registers, good, refused, refusedWith}
-use Rattle.model.specs.Status.{driveState, currentLba}
+use Rattle.model.specs.Status.{driveState}
 use Rattle.model.specs.Fill.{startFill, nothingPending}
 use Rattle.model.specs.Decide.{noWrite, oneSector, newFill, moves, sectorsOf}
 use Rattle.model.specs.Perform.{temperatureTable, spanOf}
@@ -52,10 +52,10 @@ code-registers code = record { isStatus = refl; isError = refl; isValue = refl; 
 -- ---- a fill
 
 -- "state at 10 (0, or 5 with a fill)"; "LBA 40-47 the next sector, 0 with no fill"
-pub state-idle : (driveState idle ≡ 0) × (currentLba idle ≡ 0)
+pub state-idle : (driveState idle ≡ 0) × (nextSector idle ≡ 0)
 state-idle = (refl, refl)
 
-pub state-running : (first next end : ℕ) → (driveState (running first next end) ≡ 5) × (currentLba (running first next end) ≡ next)
+pub state-running : (first next end : ℕ) → (driveState (running first next end) ≡ 5) × (nextSector (running first next end) ≡ next)
 state-running first next end = (refl, refl)
 
 -- "A running fill stores FFFFh"; its next sector is its first

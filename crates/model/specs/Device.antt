@@ -9,6 +9,11 @@ pub data Fill : Type 0 where
   idle : Fill
   running : ℕ → ℕ → ℕ → Fill
 
+-- the next sector that a fill writes, 0 with no fill
+abbrev pub nextSector : Fill → ℕ
+nextSector idle = 0
+nextSector (running first next end) = next
+
 -- A pending transfer (01: owed): a key announced that the sector moves at an E1h request.
 -- A fill's sector comes from the host, with the fill's first sector and its end; the temperature table goes to the host.
 pub data Transfer : Type 0 where

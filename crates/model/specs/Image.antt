@@ -12,7 +12,7 @@ use Rattle.wire.specs.Layout.{Field, form}
 use Rattle.wire.specs.Bytes.{same}
 use Rattle.model.specs.Sizes.{sectorSize, nativeLimit, historySize, missing, powerOnTimer, bodySize, trailerSize, entrySize, entryLimit, badLength, badImage, otherDisk, imageFull}
 use Rattle.model.specs.Device.{idle, Feature, Settings, Thermal, Device}
-use Rattle.model.specs.Key.{highestState}
+use Rattle.model.specs.Key.{statesNamed}
 use Rattle.model.specs.Temperature.{emptyHistory, emptyIndex, tableIndexPlace, tableHeadSize, tableBytes}
 use Rattle.model.specs.Fill.{nothingPending}
 
@@ -124,9 +124,7 @@ unfoldable pub inRange : Saved → Bool
 inRange s =
     between 1 (s .native) nativeLimit
     && between 1 (s .visible) (s .native)
-    && between 1 (s .writeCache .state) (highestState 1)
-    && between 1 (s .reordering .state) (highestState 2)
-    && between 1 (s .logInterval .state) (highestState 3)
+    && statesNamed (s .writeCache .state) (s .reordering .state) (s .logInterval .state)
     && ltb (s .index) historySize
 
 -- A body holds where it is, byte for byte, the body of values in range: so "zeros zero, table interval equal to feature 3".

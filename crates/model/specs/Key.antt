@@ -48,6 +48,11 @@ timerChecks k =
 abbrev pub highestState : ℕ → ℕ
 highestState feature = if eqb feature 1 then 3 else if eqb feature 2 then 2 else 65535
 
+-- "every .. feature state has one of its named values", of features 1 to 3
+unfoldable pub statesNamed : ℕ → ℕ → ℕ → Bool
+statesNamed cache reordering interval =
+    between 1 cache (highestState 1) && between 1 reordering (highestState 2) && between 1 interval (highestState 3)
+
 -- Action 4: "1 set, 2 state, 3 options; else 000Ch"; "word 2 is 1 to 3, else 000Dh";
 -- "set only: word 3 invalid 000Eh, then word 4 other than 0 or 1 000Fh"
 abbrev pub featureChecks : List ℕ → List Check

@@ -5,17 +5,12 @@ use mathlib.Core.List.{List, [], _∷_, _++_}
 use Rattle.wire.specs.Choice.{bit}
 use Rattle.wire.specs.Layout.{Field, form}
 use Rattle.model.specs.Sizes.{sectorSize}
-use Rattle.model.specs.Device.{Fill, idle, running, Command, Thermal, Device}
+use Rattle.model.specs.Device.{Fill, idle, running, Command, Thermal, Device, nextSector}
 
 -- "state at 10 (0, or 5 with a fill)"
 abbrev pub driveState : Fill → ℕ
 driveState idle = 0
 driveState (running first next end) = 5
-
--- "LBA 40-47 the next sector, 0 with no fill"
-abbrev pub currentLba : Fill → ℕ
-currentLba idle = 0
-currentLba (running first next end) = next
 
 -- "format 0002h; version 0001h at 2; spec 0001h at 4; flag bit 0 at 6; state at 10 (0, or 5 with a fill)"
 abbrev pub statusHead : Bool → Fill → List Field
@@ -24,7 +19,7 @@ statusHead initialized fill =
 
 -- "code 14; action 16; function 18; LBA 40-47 the next sector, 0 with no fill"
 abbrev pub statusCommand : Command → List Field
-statusCommand c = (14, 2, c .code) ∷ (16, 2, c .action) ∷ (18, 2, c .function) ∷ (40, 8, currentLba (c .fill)) ∷ []
+statusCommand c = (14, 2, c .code) ∷ (16, 2, c .action) ∷ (18, 2, c .function) ∷ (40, 8, nextSector (c .fill)) ∷ []
 
 -- "temperatures at 200 (now), 202 (this power cycle), 204 (life)"
 abbrev pub statusTemperatures : Thermal → List Field

@@ -16,7 +16,7 @@ ghost use Prim.Native.Nat.{_+_, _<_, _≤_};
 ghost use lib.ListN.{length};
 ghost use Rattle.wire.specs.Numbers.{get};
 ghost use Rattle.store.specs.Areas.{recordSize};
-ghost use Rattle.store.specs.Record.{stageOf, fillOf, transferOf, flagOf, stageAt, transferAt, decode};
+ghost use Rattle.store.specs.Record.{stageNumber, stageOf, fillOf, transferOf, flagOf, stageAt, transferAt, decode};
 ghost use Rattle.record.specs.DeviceMeaning.{asStage, asTransfer, asFill, asSettings, asThermal, asContents, historyOf};
 
 // ---- numbers as cases
@@ -31,6 +31,17 @@ fn stage_of(n: u8) -> Stage
         return Stage::Answered;
     }
     Stage::Empty
+}
+
+// The number of a stage.
+pub fn stage_number(s: Stage) -> u8
+    ensures { λ res. ⌜ res ≡ stageNumber (asStage s) ⌝ }
+{
+    match s {
+        Stage::Empty => port::EMPTY,
+        Stage::Held => port::HELD,
+        Stage::Answered => port::ANSWERED,
+    }
 }
 
 fn transfer_of(kind: u8, first: u64, end: u64) -> Transfer

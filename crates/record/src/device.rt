@@ -1,8 +1,9 @@
 // The device as a struct by value. The history stays in the record's bytes: the struct is small.
 ghost use mathlib.Core.Path.{_≡_};
 ghost use Prim.Native.Nat.{ℕ};
+ghost use Rattle.model.specs.Device.{nextSector};
 ghost use Rattle.model.specs.Image.{kept, blank, settingsOf, powerOnSettings};
-ghost use Rattle.record.specs.DeviceMeaning.{asFeature, asSettings};
+ghost use Rattle.record.specs.DeviceMeaning.{asFill, asFeature, asSettings};
 
 pub enum Stage {
     Empty,
@@ -22,6 +23,16 @@ pub enum Transfer {
 pub enum Fill {
     Idle,
     Running(u64, u64, u64),
+}
+
+// The next sector that a fill writes, 0 with no fill.
+pub fn next_sector(fill: Fill) -> u64
+    ensures { λ r. ⌜ r ≡ nextSector (asFill fill) ⌝ }
+{
+    match fill {
+        Fill::Idle => 0,
+        Fill::Running(_, next, _) => next,
+    }
 }
 
 // A port's slot: its stage, and the transfer that the port has pending.

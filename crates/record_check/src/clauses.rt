@@ -13,6 +13,7 @@ ghost use mathlib.Core.List.{[], _∷_};
 ghost use Prim.Native.Nat.{_≤_};
 ghost use lib.ListN.{length};
 ghost use lib.Dec.{leb};
+ghost use Rattle.model.specs.Key.{statesNamed};
 ghost use Rattle.model.specs.Valid.{pendingCount, pendingLimit};
 ghost use Rattle.store.specs.Areas.{recordSize};
 ghost use Rattle.store.specs.Record.{decode};
@@ -96,18 +97,26 @@ fn timer_sound(n: u16) -> bool
     (n == 0) | (sct::TIMER_MINIMUM <= n)
 }
 
-// "the interval is 1 or more"; "every .. feature state has one of its named values"
+// "every .. feature state has one of its named values"
+pub fn states_named(write_cache: u16, reordering: u16, log_interval: u16) -> bool
+    ensures { λ res. ⌜ res ≡ statesNamed «write_cache» reordering «log_interval» ⌝ }
+{
+    ((1 <= write_cache) & (write_cache <= sct::WRITE_CACHE_LIMIT))
+        & ((1 <= reordering) & (reordering <= sct::REORDERING_LIMIT))
+        & ((1 <= log_interval) & (log_interval <= sct::LOG_INTERVAL_LIMIT))
+}
+
+// The timers and features.
 fn settings_sound(s: Settings) -> bool
     ensures { λ res. ⌜ res ≡ settingsSound (asSettings s) ⌝ }
 {
-    let cache = s.write_cache.state;
-    let reordering = s.reordering.state;
-    let interval = s.log_interval.state;
     timer_sound(s.read_timer)
         & timer_sound(s.write_timer)
-        & ((1 <= cache) & (cache <= sct::WRITE_CACHE_LIMIT))
-        & ((1 <= reordering) & (reordering <= sct::REORDERING_LIMIT))
-        & ((1 <= interval) & (interval <= sct::LOG_INTERVAL_LIMIT))
+        & states_named(
+            s.write_cache.state,
+            s.reordering.state,
+            s.log_interval.state,
+        )
 }
 
 // "1 ≤ V ≤ N ≤ 65,536"; "minutes counted are below it, the history index is at most 477". The history is not judged.

@@ -1,28 +1,10 @@
 // Cases as the numbers that a record holds.
 use layout::port;
 use record::Fill;
-use record::Stage;
 use record::Transfer;
 ghost use mathlib.Core.Path.{_≡_};
-ghost use Rattle.wire.specs.Choice.{bit};
-ghost use Rattle.store.specs.Record.{stageNumber, fillKind, fillFirst, fillNext, fillEnd, transferKind, transferFirst, transferEnd};
-ghost use Rattle.record.specs.DeviceMeaning.{asStage, asTransfer, asFill};
-
-pub fn bit_of(b: bool) -> u8
-    ensures { λ res. ⌜ res ≡ bit b ⌝ }
-{
-    if b { 1 } else { 0 }
-}
-
-pub fn stage_number(s: Stage) -> u8
-    ensures { λ res. ⌜ res ≡ stageNumber (asStage s) ⌝ }
-{
-    match s {
-        Stage::Empty => port::EMPTY,
-        Stage::Held => port::HELD,
-        Stage::Answered => port::ANSWERED,
-    }
-}
+ghost use Rattle.store.specs.Record.{fillKind, fillFirst, fillEnd, transferKind, transferFirst, transferEnd};
+ghost use Rattle.record.specs.DeviceMeaning.{asTransfer, asFill};
 
 pub fn transfer_kind(t: Transfer) -> u8
     ensures { λ res. ⌜ res ≡ transferKind (asTransfer t) ⌝ }
@@ -69,15 +51,6 @@ pub fn fill_first(f: Fill) -> u64
     match f {
         Fill::Idle => 0,
         Fill::Running(first, _, _) => first,
-    }
-}
-
-pub fn fill_next(f: Fill) -> u64
-    ensures { λ res. ⌜ res ≡ fillNext (asFill f) ⌝ }
-{
-    match f {
-        Fill::Idle => 0,
-        Fill::Running(_, next, _) => next,
     }
 }
 

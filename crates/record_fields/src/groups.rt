@@ -1,10 +1,7 @@
 // The fields of a record's first half, stored group by group.
-use crate::cases::bit_of;
 use crate::cases::fill_end;
 use crate::cases::fill_first;
 use crate::cases::fill_kind;
-use crate::cases::fill_next;
-use crate::cases::stage_number;
 use crate::cases::transfer_end;
 use crate::cases::transfer_first;
 use crate::cases::transfer_kind;
@@ -16,6 +13,8 @@ use record::Fill;
 use record::Settings;
 use record::Slot;
 use record::Thermal;
+use record::stage_number;
+use wire::bit_of;
 ghost use mathlib.Core.Path.{_≡_};
 ghost use mathlib.Core.List.{[]};
 ghost use Prim.Native.Nat.{_<_};
@@ -91,7 +90,7 @@ pub fn put_fill(device: &mut [u8], f: Fill)
     ensures fits { λ _. ⌜ Fit (fillFields (asFill f)) ⌝ }
 {
     wire::put_u64(device, field::FILL_FIRST_AT, fill_first(f));
-    wire::put_u64(device, field::FILL_NEXT_AT, fill_next(f));
+    wire::put_u64(device, field::FILL_NEXT_AT, record::next_sector(f));
     wire::put_u64(device, field::FILL_END_AT, fill_end(f));
 }
 

@@ -2,7 +2,6 @@
 mod cases;
 mod groups;
 
-pub use cases::stage_number;
 pub use groups::put_command;
 pub use groups::put_fill;
 pub use groups::put_settings;

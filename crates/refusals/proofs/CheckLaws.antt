@@ -11,9 +11,9 @@ use Rattle.wire.specs.Bytes.{Bytes}
 use Rattle.wire.proofs.ChoiceLaws.{Numbered, passed-not, chosen-refusal, chosen-done, all-pass, pass-all}
 use Rattle.model.specs.Sizes.{sectorSize, nativeLimit, portCount, mailboxSize}
 use Rattle.store.specs.Areas.{recordSize, privateSize}
-use Rattle.store.specs.Record.{Stage, decode}
+use Rattle.store.specs.Record.{Stage, held, decode}
 use Rattle.store.specs.Sound.{sound}
-use Rattle.store.specs.Entries.{goodPort, isHeld, inStage, mailboxChecks, serveChecks, workChecks}
+use Rattle.store.specs.Entries.{goodPort, inStage, mailboxChecks, serveChecks, workChecks}
 use Rattle.store.proofs.SoundLaws.{sound-parts, sound-valid}
 
 -- "N ≤ 65,536"
@@ -42,9 +42,9 @@ pub record MailboxPassed (r : List ℕ) (p : ℕ) (m a : List ℕ) : Type 0 wher
   pub areaSized : length a ≡ privateSize
   pub port : p < portCount
 
-pub mailbox-passed : (stage : Stage → Bool) (r : List ℕ) (p : ℕ) (m a : List ℕ) {n : ℕ} → n ≡ firstFailed (mailboxChecks stage r p m a) → n ≡ 0 → MailboxPassed r p m a
-mailbox-passed stage r p m a e z =
-    let all = all-pass 4 (mailboxChecks stage r p m a) (omega arith) (sym e ∙ z) in
+pub mailbox-passed : (needed : Stage) (r : List ℕ) (p : ℕ) (m a : List ℕ) {n : ℕ} → n ≡ firstFailed (mailboxChecks needed r p m a) → n ≡ 0 → MailboxPassed r p m a
+mailbox-passed needed r p m a e z =
+    let all = all-pass 4 (mailboxChecks needed r p m a) (omega arith) (sym e ∙ z) in
     record {
       isSound = all .0;
       recordSized = sound-parts r (all .0) .size;
@@ -70,7 +70,7 @@ work-passed r a disk e z =
 -- serve's checks are work's, then those of the slot ..
 module _ (r : List ℕ) (p : ℕ) (a disk : List ℕ) (n : ℕ) where
   abbrev slotChecks : List Check
-  slotChecks = goodPort p ∷ inStage isHeld r p ∷ []
+  slotChecks = goodPort p ∷ inStage held r p ∷ []
 
   both : firstFailed (serveChecks r p a disk) ≡ ifPassed (firstFailed (workChecks r a disk)) (firstFailed slotChecks) (firstFailed (workChecks r a disk))
   both = first-then 4 (workChecks r a disk) slotChecks (omega arith)

@@ -5,6 +5,7 @@ use layout::PRIVATE;
 use layout::SECTOR_U64;
 use layout::answer;
 use record::Stage;
+use record::stage_number;
 ghost use mathlib.Core.Path.{_≡_};
 ghost use mathlib.Core.Bool.{true};
 ghost use mathlib.Core.List.{List, [], _∷_};
@@ -18,40 +19,16 @@ ghost use Rattle.store.specs.Record.{decode};
 ghost use Rattle.store.specs.Sound.{sound};
 ghost use Rattle.store.specs.Entries.{goodPort, inStage, mailboxChecks, serveChecks, workChecks};
 ghost use Rattle.record.specs.DeviceMeaning.{asStage};
-ghost use Rattle.refusals.specs.Needed.{isStage};
-
-// Whether a stage is the one that a step needs.
-fn is_stage(needed: Stage, stage: Stage) -> bool
-    ensures { λ r. ⌜ r ≡ isStage (asStage needed) (asStage stage) ⌝ }
-{
-    match needed {
-        Stage::Empty => match stage {
-            Stage::Empty => true,
-            Stage::Held => false,
-            Stage::Answered => false,
-        },
-        Stage::Held => match stage {
-            Stage::Empty => false,
-            Stage::Held => true,
-            Stage::Answered => false,
-        },
-        Stage::Answered => match stage {
-            Stage::Empty => false,
-            Stage::Held => false,
-            Stage::Answered => true,
-        },
-    }
-}
 
 // "port above 3": 1; "slot not in the stage the step needs": 3.
 fn slot_refusal(device: &[u8], port: u32, needed: Stage) -> u32
     requires { ⌜ length (now device) ≡ recordSize ⌝ }
-    ensures { λ n. ⌜ n ≡ firstFailed (goodPort port ∷ inStage (isStage (asStage needed)) (now (device .entry)) port ∷ []) ⌝ }
+    ensures { λ n. ⌜ n ≡ firstFailed (goodPort port ∷ inStage (asStage needed) (now (device .entry)) port ∷ []) ⌝ }
 {
     if port >= PORTS_U32 {
         return answer::BAD_PORT;
     }
-    if !is_stage(needed, record::stage_at(device, port as usize)) {
+    if stage_number(record::stage_at(device, port as usize)) != stage_number(needed) {
         return answer::BAD_STAGE;
     }
     answer::DONE
@@ -65,7 +42,7 @@ pub fn mailbox_refusal(
     area_len: usize,
     needed: Stage,
 ) -> u32
-    ensures { λ n. ⌜ ((m a : List ℕ) → length m ≡ «mailbox_len» → length a ≡ «area_len» → n ≡ firstFailed (mailboxChecks (isStage (asStage needed)) (now (device .entry)) port m a)) ⌝ }
+    ensures { λ n. ⌜ ((m a : List ℕ) → length m ≡ «mailbox_len» → length a ≡ «area_len» → n ≡ firstFailed (mailboxChecks (asStage needed) (now (device .entry)) port m a)) ⌝ }
 {
     if !record_check::sound(device) {
         return answer::BAD_RECORD;

@@ -21,22 +21,14 @@ ghost use Prim.Native.Nat.{ℕ, _+_, _*_, _≤_};
 ghost use mathlib.Core.List.{List, []};
 ghost use lib.ListN.{length};
 ghost use lib.Seq.{sets};
-ghost use Rattle.wire.specs.Choice.{bit};
 ghost use Rattle.wire.specs.Parts.{part};
 ghost use Rattle.wire.specs.Layout.{stores, placed};
 ghost use Rattle.model.specs.Sizes.{sectorSize, mailboxSize};
 ghost use Rattle.model.specs.Registers.{replyBytes};
-ghost use Rattle.model.specs.Status.{driveState, currentLba, statusHead, statusCommand, statusTemperatures, statusSector};
+ghost use Rattle.model.specs.Status.{driveState, statusHead, statusCommand, statusTemperatures, statusSector};
 ghost use Rattle.store.specs.Areas.{recordSize, headSize};
 ghost use Rattle.record.specs.DeviceMeaning.{asFill, asThermal, asCommand, asDevice};
 ghost use Rattle.reply.specs.ReplyMeaning.{asRegisters};
-
-// "flag bit 0 at 6"
-fn flags(initialized: bool) -> u32
-    ensures { λ r. ⌜ r ≡ bit initialized ⌝ }
-{
-    if initialized { 1 } else { 0 }
-}
 
 // "state at 10 (0, or 5 with a fill)"
 fn drive_state(fill: Fill) -> u8
@@ -48,16 +40,6 @@ fn drive_state(fill: Fill) -> u8
     }
 }
 
-// "LBA 40-47 the next sector, 0 with no fill"
-fn current_lba(fill: Fill) -> u64
-    ensures { λ r. ⌜ r ≡ currentLba (asFill fill) ⌝ }
-{
-    match fill {
-        Fill::Idle => 0,
-        Fill::Running(_, next, _) => next,
-    }
-}
-
 // "format 0002h; version 0001h at 2; spec 0001h at 4; flag bit 0 at 6; state at 10"
 fn put_head(area: &mut [u8], at: usize, initialized: bool, fill: Fill)
     requires { ⌜ at + sectorSize ≤ length (now area) ⌝ }
@@ -66,7 +48,11 @@ fn put_head(area: &mut [u8], at: usize, initialized: bool, fill: Fill)
     put_u16(area, at, status::FORMAT);
     put_u16(area, at + status::VERSION_AT, status::VERSION);
     put_u16(area, at + status::SPEC_AT, status::SPEC);
-    put_u32(area, at + status::FLAGS_AT, flags(initialized));
+    put_u32(
+        area,
+        at + status::FLAGS_AT,
+        wire::bit_of(initialized) as u32,
+    );
     put_u8(area, at + status::STATE_AT, drive_state(fill));
 }
 
@@ -79,7 +65,7 @@ fn put_command(area: &mut [u8], at: usize, c: Command)
     put_u16(area, at + status::ACTION_AT, c.action);
     put_u16(area, at + status::FUNCTION_AT, c.function);
     let fill = c.fill;
-    put_u64(area, at + status::LBA_AT, current_lba(fill));
+    put_u64(area, at + status::LBA_AT, record::next_sector(fill));
 }
 
 // "temperatures at 200 (now), 202 (this power cycle), 204 (life)"

@@ -43,7 +43,7 @@ fn flag_bit(device: &[u8], at: usize) -> u8
     ensures { λ res. ⌜ res ≡ bit (flagOf (get 1 (now (device .entry)) at)) ⌝ }
     ensures small { λ res. ⌜ res ≤ 1 ⌝ }
 {
-    if wire::u8_at(device, at) == 1 { 1 } else { 0 }
+    wire::bit_of(wire::u8_at(device, at) == 1)
 }
 
 // "kept marks in bits 0 to 2 of byte 24"

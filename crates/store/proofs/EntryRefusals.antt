@@ -13,10 +13,9 @@ use Rattle.model.specs.Step.{setVisible, Step, take, serve, give, work, owner, 
 use Rattle.model.specs.Decide.{Serving}
 use Rattle.model.proofs.RefusalLaws.{power-on-disk, power-on-length, power-on-unreadable, power-on-other}
 use Rattle.model.specs.Sizes.{mailboxSize}
-use Rattle.store.specs.Record.{decode}
+use Rattle.store.specs.Record.{empty, held, answered, isStage, decode}
 use Rattle.store.specs.Sound.{sound}
 use Rattle.store.specs.Store.{Store, stageFor}
-use Rattle.store.specs.Entries.{isEmpty, isHeld, isAnswered}
 use Rattle.store.specs.OnStore.{onStore}
 use Rattle.store.proofs.SoundLaws.{sound-parts}
 use Rattle.store.proofs.AnswerLaws.{entry-answer}
@@ -92,13 +91,13 @@ module _ (s : Store) (isSound : sound (s .recordArea) ≡ true) where
       pub take-port : 4 ≤ p → answerOf (take p m) s ≡ 1
       take-port h = entry-answer (take p m) s ∙ rw (isSound, eq-eqb (length m) mailboxSize mailbox, eq-eqb (length (s .privateArea)) privateSize private, le-ltb p 4 h)
 
-      pub take-stage : p < 4 → isEmpty (stageFor p (decode (s .recordArea))) ≡ false → answerOf (take p m) s ≡ 3
+      pub take-stage : p < 4 → isStage empty (stageFor p (decode (s .recordArea))) ≡ false → answerOf (take p m) s ≡ 3
       take-stage h k = entry-answer (take p m) s ∙ rw (isSound, eq-eqb (length m) mailboxSize mailbox, eq-eqb (length (s .privateArea)) privateSize private, lt-ltb p 4 h, k)
 
       pub give-port : 4 ≤ p → answerOf (give p m) s ≡ 1
       give-port h = entry-answer (give p m) s ∙ rw (isSound, eq-eqb (length m) mailboxSize mailbox, eq-eqb (length (s .privateArea)) privateSize private, le-ltb p 4 h)
 
-      pub give-stage : p < 4 → isAnswered (stageFor p (decode (s .recordArea))) ≡ false → answerOf (give p m) s ≡ 3
+      pub give-stage : p < 4 → isStage answered (stageFor p (decode (s .recordArea))) ≡ false → answerOf (give p m) s ≡ 3
       give-stage h k = entry-answer (give p m) s ∙ rw (isSound, eq-eqb (length m) mailboxSize mailbox, eq-eqb (length (s .privateArea)) privateSize private, lt-ltb p 4 h, k)
 
     module _ (x : Serving) (whole : length (s .disk .sectors) ≡ 512 * decode (s .recordArea) .device .native) where
@@ -107,7 +106,7 @@ module _ (s : Store) (isSound : sound (s .recordArea) ≡ true) where
           entry-answer (serve x) s
           ∙ rw (isSound, eq-eqb (length (s .privateArea)) privateSize private, eq-eqb (length (s .disk .sectors)) (512 * decode (s .recordArea) .device .native) whole, le-ltb (x .port) 4 h)
 
-      pub serve-stage : x .port < 4 → isHeld (stageFor (x .port) (decode (s .recordArea))) ≡ false → answerOf (serve x) s ≡ 3
+      pub serve-stage : x .port < 4 → isStage held (stageFor (x .port) (decode (s .recordArea))) ≡ false → answerOf (serve x) s ≡ 3
       serve-stage h k =
           entry-answer (serve x) s
           ∙ rw (isSound, eq-eqb (length (s .privateArea)) privateSize private, eq-eqb (length (s .disk .sectors)) (512 * decode (s .recordArea) .device .native) whole, lt-ltb (x .port) 4 h, k)

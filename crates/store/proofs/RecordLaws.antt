@@ -15,13 +15,13 @@ use Rattle.wire.proofs.PartsLaws.{part-part, get-part, part-append-right}
 use Rattle.wire.proofs.LayoutLaws.{length-form, reads-form, reads-append, reads-front, fit-append}
 use Rattle.wire.proofs.BytesLaws.{bytes-append, bytes-form}
 use Rattle.model.specs.Sizes.{sectorSize, nativeLimit, historySize}
-use Rattle.model.specs.Device.{Fill, idle, running, Transfer, none, table, fillData, Device}
+use Rattle.model.specs.Device.{Fill, idle, running, Transfer, none, table, fillData, Device, nextSector}
 use Rattle.model.specs.Temperature.{tableIntervalPlace, tableIndexPlace, tableHeadSize, tableBytes, tableFields}
 use Rattle.model.specs.Valid.{FillValid, TransferValid, PendingValid, Valid}
 use Rattle.model.proofs.FormatLaws.{TableAt, table-at, table-bytes}
 use Rattle.model.proofs.EntryLaws.{flag-back, length-table}
 use Rattle.store.specs.Areas.{recordSize, headSize}
-use Rattle.store.specs.Record.{Stage, empty, held, answered, Contents, stageNumber, fillKind, fillFirst, fillNext, fillEnd, transferKind, transferFirst, transferEnd, sizeFields, commandFields, settingsFields, thermalFields, fillFields, slotAt, slotFields, slotOf, slotsFields, headFields, encode, stageOf, fillOf, transferOf, flagOf, stageAt, transferAt, decode}
+use Rattle.store.specs.Record.{Stage, empty, held, answered, Contents, stageNumber, fillKind, fillFirst, fillEnd, transferKind, transferFirst, transferEnd, sizeFields, commandFields, settingsFields, thermalFields, fillFields, slotAt, slotFields, slotOf, slotsFields, headFields, encode, stageOf, fillOf, transferOf, flagOf, stageAt, transferAt, decode}
 
 -- The values fit their places: four stages, four transfers, a whole history, and every number its width.
 pub record ContentsFit (c : Contents) : Type 0 where
@@ -239,7 +239,7 @@ stage-back empty = refl
 stage-back held = refl
 stage-back answered = refl
 
-fill-back : (f : Fill) → fillOf (fillKind f) (fillFirst f) (fillNext f) (fillEnd f) ≡ f
+fill-back : (f : Fill) → fillOf (fillKind f) (fillFirst f) (nextSector f) (fillEnd f) ≡ f
 fill-back idle = refl
 fill-back (running first next end) = refl
 

@@ -20,10 +20,10 @@ use Rattle.wire.proofs.LayoutLaws.{length-form, reads-both, form-outside}
 use Rattle.wire.proofs.FormUnique.{form-unique}
 use Rattle.wire.proofs.BytesLaws.{bytes-part, all-zero-true, zero-all-true}
 use Rattle.model.specs.Sizes.{sectorSize}
-use Rattle.model.specs.Device.{Fill, idle, running, Transfer, none, table, fillData}
+use Rattle.model.specs.Device.{Fill, idle, running, Transfer, none, table, fillData, nextSector}
 use Rattle.model.specs.Temperature.{tableBytes}
 use Rattle.store.specs.Areas.{recordSize, headSize}
-use Rattle.store.specs.Record.{Stage, empty, held, answered, Contents, stageNumber, fillKind, fillFirst, fillNext, fillEnd, transferKind, transferFirst, transferEnd, sizeFields, commandFields, settingsFields, thermalFields, fillFields, slotAt, slotFields, slotsFields, headFields, encode, stageOf, fillOf, transferOf, flagOf, stageAt, transferAt, decode}
+use Rattle.store.specs.Record.{Stage, empty, held, answered, Contents, stageNumber, fillKind, fillFirst, fillEnd, transferKind, transferFirst, transferEnd, sizeFields, commandFields, settingsFields, thermalFields, fillFields, slotAt, slotFields, slotsFields, headFields, encode, stageOf, fillOf, transferOf, flagOf, stageAt, transferAt, decode}
 use Rattle.store.specs.Sound.{deviceSound, sound}
 use Rattle.store.specs.RecordTests.{spareRuns, zeroRuns, flagsNamed, fillNamed, slotNamed, tableFixed, soundInPlace}
 use Rattle.store.proofs.RecordLaws.{ContentsFit, valid-fits, length-encode, slot, group-reads, slot-reads, table-part}
@@ -138,7 +138,7 @@ stage-small answered = omega arith
 pub record FillExact (kind first next end : ℕ) : Type 0 where
   pub kindIs : kind ≡ fillKind (fillOf kind first next end)
   pub firstIs : first ≡ fillFirst (fillOf kind first next end)
-  pub nextIs : next ≡ fillNext (fillOf kind first next end)
+  pub nextIs : next ≡ nextSector (fillOf kind first next end)
   pub endIs : end ≡ fillEnd (fillOf kind first next end)
 
 abbrev fillTest : ℕ → ℕ → ℕ → ℕ → Bool
@@ -158,7 +158,7 @@ fill-exact kind first next end h = go (eqb kind 1) refl h
           endIs = rw e (eqb-true end 0 (and-right (eqb next 0) (eqb end 0) (w .2)));
         }
 
-fill-test : (f : Fill) → fillTest (fillKind f) (fillFirst f) (fillNext f) (fillEnd f) ≡ true
+fill-test : (f : Fill) → fillTest (fillKind f) (fillFirst f) (nextSector f) (fillEnd f) ≡ true
 fill-test idle = refl
 fill-test (running first next end) = refl
 

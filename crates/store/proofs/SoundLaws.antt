@@ -15,7 +15,8 @@ use Rattle.wire.proofs.PartsLaws.{length-part}
 use Rattle.wire.proofs.BytesLaws.{bytes-part, get-fits, same-refl, same-true}
 use Rattle.model.specs.Sizes.{nativeLimit, historySize}
 use Rattle.model.specs.Device.{Fill, idle, running, Transfer, none, table, fillData, Device}
-use Rattle.model.specs.Key.{highestState}
+use Rattle.model.specs.Key.{statesNamed}
+use Rattle.model.proofs.StateLaws.{states-ranges, ranges-states}
 use Rattle.model.specs.Temperature.{tableHeadSize}
 use Rattle.model.specs.Fill.{runningCode}
 use Rattle.model.specs.Valid.{FillValid, TransferValid, PendingValid, pendingCount, pendingLimit, CodeValid, CommandValid, TimerValid, SettingsValid, Valid}
@@ -119,14 +120,14 @@ module _ (d : Device) where
   unfolding settingsSound
   settings-clauses f e =
       let s = d .settings in
-      let w = and-three (timerSound (s .readTimer) && timerSound (s .writeTimer) && between 1 (s .writeCache .state) (highestState 1)) (between 1 (s .reordering .state) (highestState 2)) (between 1 (s .logInterval .state) (highestState 3)) e in
-      let u = and-three (timerSound (s .readTimer)) (timerSound (s .writeTimer)) (between 1 (s .writeCache .state) (highestState 1)) (w .0) in
+      let w = and-three (timerSound (s .readTimer)) (timerSound (s .writeTimer)) (statesNamed (s .writeCache .state) (s .reordering .state) (s .logInterval .state)) e in
+      let states = states-ranges (s .writeCache .state) (s .reordering .state) (s .logInterval .state) (w .2) in
       record {
-        readValid = timer-clause (s .readTimer) (u .0);
-        writeValid = timer-clause (s .writeTimer) (u .1);
-        cacheValid = between-true 1 (s .writeCache .state) (highestState 1) (u .2);
-        reorderingValid = between-true 1 (s .reordering .state) (highestState 2) (w .1);
-        intervalValid = between-true 1 (s .logInterval .state) (highestState 3) (w .2);
+        readValid = timer-clause (s .readTimer) (w .0);
+        writeValid = timer-clause (s .writeTimer) (w .1);
+        cacheValid = states .0;
+        reorderingValid = states .1;
+        intervalValid = states .2;
         words = f .timers;
       }
 
@@ -137,10 +138,8 @@ module _ (d : Device) where
       rw (
         timer-test (s .readTimer) (v .readValid),
         timer-test (s .writeTimer) (v .writeValid),
-        between-within 1 (s .writeCache .state) (highestState 1) (v .cacheValid .0) (v .cacheValid .1),
-        between-within 1 (s .reordering .state) (highestState 2) (v .reorderingValid .0) (v .reorderingValid .1),
       )
-      (between-within 1 (s .logInterval .state) (highestState 3) (v .intervalValid .0) (v .intervalValid .1))
+      (ranges-states (s .writeCache .state) (s .reordering .state) (s .logInterval .state) (v .cacheValid) (v .reorderingValid) (v .intervalValid))
 
   -- every test says its clause ..
   pub tests-clauses : DeviceFits d → deviceSound d ≡ true → Valid d

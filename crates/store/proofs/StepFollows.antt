@@ -34,9 +34,9 @@ use Rattle.model.proofs.RequestLaws.{interrupt-kept}
 use Rattle.model.proofs.ValidRequest.{WritingValid, DecisionValid, decide-valid}
 use Rattle.model.proofs.ValidStep.{does-valid, reply-valid, serve-valid}
 use Rattle.store.specs.Areas.{recordSize, slotPlace, fillPlace, privateSize}
-use Rattle.store.specs.Record.{Stage, empty, held, answered, Contents, encode, decode}
+use Rattle.store.specs.Record.{Stage, empty, held, answered, isStage, Contents, encode, decode}
 use Rattle.store.specs.Store.{Store, portOf, slotBytes, fillSectorOf, stageFor, machineOf}
-use Rattle.store.specs.Entries.{isEmpty, isHeld, isAnswered, withStage, withDevice, withFillSector, poweredContents}
+use Rattle.store.specs.Entries.{withStage, withDevice, withFillSector, poweredContents}
 use Rattle.store.specs.OnStore.{store, onStore}
 use Rattle.store.proofs.RecordLaws.{ContentsValid}
 use Rattle.store.proofs.SoundLaws.{sound-parts}
@@ -74,17 +74,17 @@ record Done (x : Step) (s : Store) : Type 0 where
 
 -- ---- the checks
 
-empty-says : (k : Stage) (b : List ℕ) → Rattle.model.specs.Step.isEmpty (portOf k b) ≡ isEmpty k
+empty-says : (k : Stage) (b : List ℕ) → Rattle.model.specs.Step.isEmpty (portOf k b) ≡ isStage empty k
 empty-says empty b = refl
 empty-says held b = refl
 empty-says answered b = refl
 
-held-says : (k : Stage) (b : List ℕ) → Rattle.model.specs.Step.isRequest (portOf k b) ≡ isHeld k
+held-says : (k : Stage) (b : List ℕ) → Rattle.model.specs.Step.isRequest (portOf k b) ≡ isStage held k
 held-says empty b = refl
 held-says held b = refl
 held-says answered b = refl
 
-answered-says : (k : Stage) (b : List ℕ) → Rattle.model.specs.Step.isReply (portOf k b) ≡ isAnswered k
+answered-says : (k : Stage) (b : List ℕ) → Rattle.model.specs.Step.isReply (portOf k b) ≡ isStage answered k
 answered-says empty b = refl
 answered-says held b = refl
 answered-says answered b = refl
@@ -216,12 +216,12 @@ module _ (s : Store) (v : StoreValid s) where
         seenSame = refl;
       }
 
-  answered-bytes : (k : Stage) (b : List ℕ) → isAnswered k ≡ true → heldBytes (portOf k b) ≡ b
+  answered-bytes : (k : Stage) (b : List ℕ) → isStage answered k ≡ true → heldBytes (portOf k b) ≡ b
   answered-bytes empty b e = absurd (let z : _≡_ {A = ℕ} 0 1 = cc in omega arith)
   answered-bytes held b e = refl
   answered-bytes answered b e = refl
 
-  held-bytes : (k : Stage) (b : List ℕ) → isHeld k ≡ true → heldBytes (portOf k b) ≡ b
+  held-bytes : (k : Stage) (b : List ℕ) → isStage held k ≡ true → heldBytes (portOf k b) ≡ b
   held-bytes empty b e = absurd (let z : _≡_ {A = ℕ} 0 1 = cc in omega arith)
   held-bytes held b e = refl
   held-bytes answered b e = refl

@@ -17,7 +17,7 @@ use Rattle.model.specs.Step.{OwnerStep, lock, unlock, setVisible, sample, goodV
 use Rattle.model.specs.Image.{Saved, savedImage, restored, powerOn}
 use Rattle.model.specs.Image.{saveChecks as savingChecks, powerOnChecks as diskChecks}
 use Rattle.store.specs.Areas.{recordSize, slotPlace, fillPlace, privateSize}
-use Rattle.store.specs.Record.{Stage, empty, held, answered, Contents, encode, decode}
+use Rattle.store.specs.Record.{Stage, empty, held, answered, isStage, Contents, encode, decode}
 use Rattle.store.specs.Sound.{sound}
 use Rattle.store.specs.Store.{slotBytes, fillSectorOf, stageFor}
 
@@ -38,29 +38,14 @@ diskSized r disk = ofSize (sectorSize * decode r .device .native) disk
 abbrev pub goodPort : ℕ → Check
 goodPort p = (ltb p portCount, badPort)
 
-abbrev pub isEmpty : Stage → Bool
-isEmpty empty = true
-isEmpty held = false
-isEmpty answered = false
-
-abbrev pub isHeld : Stage → Bool
-isHeld empty = false
-isHeld held = true
-isHeld answered = false
-
-abbrev pub isAnswered : Stage → Bool
-isAnswered empty = false
-isAnswered held = false
-isAnswered answered = true
-
 -- "slot not in the stage the step needs"
-abbrev pub inStage : (Stage → Bool) → List ℕ → ℕ → Check
-inStage stage r p = (stage (stageFor p (decode r)), badStage)
+abbrev pub inStage : Stage → List ℕ → ℕ → Check
+inStage needed r p = (isStage needed (stageFor p (decode r)), badStage)
 
 -- take and give, with the stage that they need
-abbrev pub mailboxChecks : (Stage → Bool) → List ℕ → ℕ → List ℕ → List ℕ → List Check
-mailboxChecks stage r p m a =
-    soundRecord r ∷ ofSize mailboxSize m ∷ ofSize privateSize a ∷ goodPort p ∷ inStage stage r p ∷ []
+abbrev pub mailboxChecks : Stage → List ℕ → ℕ → List ℕ → List ℕ → List Check
+mailboxChecks needed r p m a =
+    soundRecord r ∷ ofSize mailboxSize m ∷ ofSize privateSize a ∷ goodPort p ∷ inStage needed r p ∷ []
 
 -- the record with another stage of slot p, and with another device
 abbrev pub withStage : ℕ → Stage → Contents → Contents
@@ -77,7 +62,7 @@ pub record TakeAfter : Type 0 where
   pub privateArea : List ℕ
 
 abbrev pub takeChecks : List ℕ → ℕ → List ℕ → List ℕ → List Check
-takeChecks r p m a = mailboxChecks isEmpty r p m a
+takeChecks r p m a = mailboxChecks empty r p m a
 
 -- "copies the mailbox into the port's slot. Slot goes from empty to held."
 abbrev pub takeDone : List ℕ → ℕ → List ℕ → List ℕ → TakeAfter
@@ -98,7 +83,7 @@ pub record ServeAfter : Type 0 where
   pub disk : List ℕ
 
 abbrev pub serveChecks : List ℕ → ℕ → List ℕ → List ℕ → List Check
-serveChecks r p a disk = soundRecord r ∷ ofSize privateSize a ∷ diskSized r disk ∷ goodPort p ∷ inStage isHeld r p ∷ []
+serveChecks r p a disk = soundRecord r ∷ ofSize privateSize a ∷ diskSized r disk ∷ goodPort p ∷ inStage held r p ∷ []
 
 -- a fill that begins has its sector in the private area
 abbrev pub withFillSector : Writing → List ℕ → List ℕ
@@ -133,7 +118,7 @@ pub record GiveAfter : Type 0 where
   pub mailbox : List ℕ
 
 abbrev pub giveChecks : List ℕ → ℕ → List ℕ → List ℕ → List Check
-giveChecks r p m a = mailboxChecks isAnswered r p m a
+giveChecks r p m a = mailboxChecks answered r p m a
 
 -- "writes all 528 reply bytes to the mailbox. Answered to empty; the slot's bytes stay."
 abbrev pub giveDone : List ℕ → ℕ → List ℕ → GiveAfter

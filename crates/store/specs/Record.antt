@@ -9,7 +9,7 @@ use Rattle.wire.specs.Numbers.{get}
 use Rattle.wire.specs.Parts.{part}
 use Rattle.wire.specs.Layout.{Field, form}
 use Rattle.model.specs.Sizes.{historySize}
-use Rattle.model.specs.Device.{Fill, idle, running, Transfer, none, table, fillData, Command, Settings, Thermal, Device}
+use Rattle.model.specs.Device.{Fill, idle, running, Transfer, none, table, fillData, Command, Settings, Thermal, Device, nextSector}
 use Rattle.model.specs.Temperature.{tableIntervalPlace, tableIndexPlace, tableHeadSize, tableBytes}
 use Rattle.store.specs.Areas.{headSize}
 
@@ -31,6 +31,10 @@ stageNumber empty = 0
 stageNumber held = 1
 stageNumber answered = 2
 
+-- whether a stage is the one that is needed
+abbrev pub isStage : Stage → Stage → Bool
+isStage needed s = eqb (stageNumber s) (stageNumber needed)
+
 abbrev pub fillKind : Fill → ℕ
 fillKind idle = 0
 fillKind (running first next end) = 1
@@ -38,10 +42,6 @@ fillKind (running first next end) = 1
 abbrev pub fillFirst : Fill → ℕ
 fillFirst idle = 0
 fillFirst (running first next end) = first
-
-abbrev pub fillNext : Fill → ℕ
-fillNext idle = 0
-fillNext (running first next end) = next
 
 abbrev pub fillEnd : Fill → ℕ
 fillEnd idle = 0
@@ -85,7 +85,7 @@ abbrev pub thermalFields : Thermal → List Field
 thermalFields t = (38, 2, t .minutes) ∷ (40, 1, t .current) ∷ (41, 1, t .cycleMaximum) ∷ (42, 1, t .lifeMaximum) ∷ []
 
 abbrev pub fillFields : Fill → List Field
-fillFields f = (48, 8, fillFirst f) ∷ (56, 8, fillNext f) ∷ (64, 8, fillEnd f) ∷ []
+fillFields f = (48, 8, fillFirst f) ∷ (56, 8, nextSector f) ∷ (64, 8, fillEnd f) ∷ []
 
 -- slot i: its stage, the kind of its port's pending transfer, and that transfer's first sector and end
 abbrev pub slotAt : ℕ → ℕ

@@ -4,11 +4,10 @@ use Prim.Native.Nat.{ℕ}
 use mathlib.Core.List.{List, [], _∷_}
 use lib.ListN.{length}
 use lib.Dec.{eqb, leb, ltb}
-use Rattle.wire.specs.Choice.{between}
 use Rattle.wire.specs.Bytes.{same}
 use Rattle.model.specs.Sizes.{nativeLimit, historySize}
 use Rattle.model.specs.Device.{Fill, idle, running, Transfer, none, table, fillData, Command, Settings, Device}
-use Rattle.model.specs.Key.{highestState}
+use Rattle.model.specs.Key.{statesNamed}
 use Rattle.model.specs.Fill.{runningCode}
 use Rattle.model.specs.Valid.{pendingCount, pendingLimit}
 use Rattle.store.specs.Areas.{recordSize}
@@ -45,9 +44,7 @@ unfoldable pub settingsSound : Settings → Bool
 settingsSound s =
     timerSound (s .readTimer)
     && timerSound (s .writeTimer)
-    && between 1 (s .writeCache .state) (highestState 1)
-    && between 1 (s .reordering .state) (highestState 2)
-    && between 1 (s .logInterval .state) (highestState 3)
+    && statesNamed (s .writeCache .state) (s .reordering .state) (s .logInterval .state)
 
 -- "1 ≤ V ≤ N ≤ 65,536"; "minutes counted are below it, the history index is at most 477"
 unfoldable pub deviceSound : Device → Bool

@@ -1,6 +1,7 @@
 // Numbers in runs of bytes, read and stored. See specs/ for the fields and parts of a run.
 mod number;
 
+pub use number::bit_of;
 pub use number::put_u8;
 pub use number::put_u16;
 pub use number::put_u32;

@@ -2,6 +2,7 @@
 ghost use mathlib.Core.Path.{_≡_};
 ghost use Prim.Native.Nat.{_+_, _*_, _≤_};
 ghost use lib.ListN.{length};
+ghost use Rattle.wire.specs.Choice.{bit};
 ghost use Rattle.wire.specs.Numbers.{get, put};
 
 // How many values a u8, a u16 and a u32 have; how many bytes a u16 and a u32.
@@ -14,6 +15,14 @@ const U32_VALUES: u64 = 4294967296;
 const U16: usize = 2;
 
 const U32: usize = 4;
+
+// A flag as a number.
+pub fn bit_of(b: bool) -> u8
+    ensures { λ r. ⌜ r ≡ bit b ⌝ }
+    ensures small { λ r. ⌜ r ≤ 1 ⌝ }
+{
+    if b { 1 } else { 0 }
+}
 
 // The number whose bytes are lo and hi.
 fn join16(lo: u8, hi: u8) -> u16

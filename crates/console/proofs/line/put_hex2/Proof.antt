@@ -23,10 +23,15 @@ same-length c = search needs
 
 returns : tie.Need-returns
 returns c =
-    let a = c .before .before .before .before .before .before .before .before .before .before .before .args in (
+    let at-put-byte2 = c .before .before in
+    let at-hex-digit2 = at-put-byte2 .before in
+    let at-put-byte = at-hex-digit2 .before .before .before .before in
+    let at-hex-digit = at-put-byte .before in
+    let entry = at-hex-digit .before .before .before in
+    let a = entry .args in (
       omega arith,
-      wrote-as (rw (c .before .before .before .before .before .before .before .before .hex-digit .ensures, c .before .before .before .hex-digit2 .ensures) (hex-two (a .v) (omega arith)))
-          (wrote-then (c .before .before .before .before .before .before .before .put-byte .ensures .1) (c .before .before .put-byte2 .ensures .1)),
+      wrote-as (rw (at-hex-digit .hex-digit .ensures, at-hex-digit2 .hex-digit2 .ensures) (hex-two (a .v) (omega arith)))
+          (wrote-then (at-put-byte .put-byte .ensures .1) (at-put-byte2 .put-byte2 .ensures .1)),
     )
 
 pub put-hex2-spec : {M : Type 1} → statement M

@@ -22,11 +22,14 @@ same-length : tie.Need-same-length
 same-length c = search needs
 
 returns : tie.Need-returns
-returns c = (
-  omega arith,
-  wrote-as (hex-halves 2 2 (c .before .before .before .before .before .before .before .before .before .args .v))
-      (wrote-then (c .before .before .before .before .before .before .put-hex2 .ensures .1) (c .before .before .put-hex22 .ensures .1)),
-)
+returns c =
+    let at-put-hex22 = c .before .before in
+    let at-put-hex2 = at-put-hex22 .before .before .before .before in
+    let entry = at-put-hex2 .before .before .before in (
+      omega arith,
+      wrote-as (hex-halves 2 2 (entry .args .v))
+          (wrote-then (at-put-hex2 .put-hex2 .ensures .1) (at-put-hex22 .put-hex22 .ensures .1)),
+    )
 
 pub put-hex4-spec : {M : Type 1} → statement M
 put-hex4-spec =

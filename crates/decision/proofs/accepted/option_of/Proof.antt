@@ -1,5 +1,5 @@
 -- `decision::accepted::option_of` meets its contract.
-use mathlib.Core.Path.{ap, sym, _∙_}
+use mathlib.Core.Path.{ap, _∙_}
 use Rattle.wire.specs.Choice.{bit}
 use Rattle.model.specs.Device.{Feature}
 use borrow.Author.Needs.{needs}
@@ -9,11 +9,14 @@ use Rattle.decision.proofs.accepted.option_of.Tie as tie
 feature-requires : tie.Need-feature-requires
 feature-requires c κs = search needs
 
-returns : tie.Need-returns
-returns c = sym (ap bit (sym (ap (λ (f : Feature). f .persistent) (c .before .feature .ensures)) ∙ c .if1 .taken))
+bit-of-requires : tie.Need-bit-of-requires
+bit-of-requires c κs = search needs
 
-returns-2 : tie.Need-returns-2
-returns-2 c = sym (ap bit (sym (ap (λ (f : Feature). f .persistent) (c .before .feature .ensures)) ∙ c .if1 .left))
+cast-result : tie.Need-cast-result
+cast-result c = search needs
+
+returns : tie.Need-returns
+returns c = c .bit-of .ensures .0 ∙ ap (λ (f : Feature). bit (f .persistent)) (c .before .feature .ensures)
 
 pub option-of-spec : {M : Type 1} → statement M
-option-of-spec = tie.close (tie.spec feature-requires returns returns-2)
+option-of-spec = tie.close (tie.spec feature-requires bit-of-requires cast-result returns)

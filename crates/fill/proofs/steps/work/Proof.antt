@@ -16,8 +16,8 @@ decode-requires c κs = sound-parts (c .before .before .before .before .args .de
 count-of-requires : tie.Need-count-of-requires
 count-of-requires c κs = search needs
 
-next-of-requires : tie.Need-next-of-requires
-next-of-requires c κs = search needs
+next-sector-requires : tie.Need-next-sector-requires
+next-sector-requires c κs = search needs
 
 write-sectors-requires : tie.Need-write-sectors-requires
 write-sectors-requires c κs =
@@ -25,7 +25,7 @@ write-sectors-requires c κs =
     let at-decode = at-count-of .before .before in
     let known = at-decode .before .before .before .before in
     let entry = known .before in
-    let next = c .next-of .ensures in
+    let next = c .next-sector .ensures in
     let count = at-count-of .count-of .ensures in
     let fits = work-fits (entry .args .device .now) (entry .args .area .now) (entry .args .disk .now) _ _ (at-decode .decode .result) (at-decode .decode .result) (at-decode .decode .ensures) (at-count-of .count-of .ensures) (λ i. omega (arith, known .slice-known .given i)) (entry .pre .0) (entry .pre .2) in
     (entry .pre .1, omega (arith, next, count, fits))
@@ -50,8 +50,8 @@ returns c =
     let at-write = c .before .before in
     let at-moved-on = at-write .before .before in
     let at-write-sectors = at-moved-on .before .before .before in
-    let at-next-of = at-write-sectors .before in
-    let at-count-of = at-next-of .before .before in
+    let at-next-sector = at-write-sectors .before in
+    let at-count-of = at-next-sector .before .before in
     let at-decode = at-count-of .before .before in
     let entry = at-decode .before .before .before .before .before in
     let a = entry .args in
@@ -59,7 +59,7 @@ returns c =
       worked-count (a .device .now) (a .area .now) (a .disk .now) (a .n) _ (at-decode .decode .result) (at-moved-on .moved-on .result) (at-decode .decode .ensures) (at-count-of .count-of .ensures),
       (
         rw (at-write .write .ensures .0) (worked-record (a .device .now) (a .area .now) (a .disk .now) (a .n) _ (at-decode .decode .result) (at-moved-on .moved-on .result) (at-decode .decode .ensures) (at-count-of .count-of .ensures) whole (at-moved-on .moved-on .ensures)),
-        rw (at-write-sectors .write-sectors .ensures, at-next-of .next-of .ensures) (worked-disk (a .device .now) (a .area .now) (a .disk .now) (a .n) _ (at-decode .decode .result) (at-moved-on .moved-on .result) (at-decode .decode .ensures) (at-count-of .count-of .ensures) whole),
+        rw (at-write-sectors .write-sectors .ensures, at-next-sector .next-sector .ensures) (worked-disk (a .device .now) (a .area .now) (a .disk .now) (a .n) _ (at-decode .decode .result) (at-moved-on .moved-on .result) (at-decode .decode .ensures) (at-count-of .count-of .ensures) whole),
       ),
     )
 
@@ -69,7 +69,7 @@ work-spec =
     (tie.spec
     decode-requires
     count-of-requires
-    next-of-requires
+    next-sector-requires
     write-sectors-requires
     moved-on-requires
     write-requires

@@ -37,9 +37,27 @@ add-u16-at-4 c = search needs
 u16-at-requires-4 : tie.Need-u16-at-requires-4
 u16-at-requires-4 c κs = search needs
 
+states-named-requires : tie.Need-states-named-requires
+states-named-requires c κs = search needs
+
 returns : tie.Need-returns
 unfolding inRange savedAt
-returns c = rw (c .before .before .before .before .before .native-at .ensures, c .before .before .before .before .u64-at .ensures, c .before .before .before .u16-at .ensures, c .before .before .u16-at2 .ensures, c .before .u16-at3 .ensures, c .u16-at4 .ensures)
+returns c =
+    let at-u16-at4 = c .before in
+    let at-u16-at3 = at-u16-at4 .before in
+    let at-u16-at2 = at-u16-at3 .before in
+    let at-u16-at = at-u16-at2 .before in
+    let at-u64-at = at-u16-at .before in
+    let at-native-at = at-u64-at .before in
+    rw (
+      at-native-at .native-at .ensures,
+      at-u64-at .u64-at .ensures,
+      c .states-named .ensures,
+      at-u16-at .u16-at .ensures,
+      at-u16-at2 .u16-at2 .ensures,
+      at-u16-at3 .u16-at3 .ensures,
+      at-u16-at4 .u16-at4 .ensures,
+    )
 
 pub values-in-range-spec : {M : Type 1} → statement M
 values-in-range-spec =
@@ -56,4 +74,5 @@ values-in-range-spec =
     u16-at-requires-3
     add-u16-at-4
     u16-at-requires-4
+    states-named-requires
     returns)

@@ -28,8 +28,16 @@ between-requires-3 : tie.Need-between-requires-3
 between-requires-3 c κs = search needs
 
 returns-3 : tie.Need-returns-3
-returns-3 c = λ k f n s o.
-    rw (f, passed (c .before .before .before .before .before .before .before .before .between .ensures) (c .before .before .before .before .before .before .before .if1 .left), n, passed (c .before .before .before .before .before .before .between2 .ensures) (c .before .before .before .before .before .if2 .left), eq-eqb _ _ (c .before .before .before .if3 .taken), s, ← c .before .before .highest-state .ensures, failed (c .before .between3 .ensures) (c .if4 .taken))
+returns-3 c =
+    let at-between3 = c .before in
+    let at-highest-state = at-between3 .before in
+    let at-if3 = at-highest-state .before in
+    let at-if2 = at-if3 .before .before in
+    let at-between2 = at-if2 .before in
+    let at-if1 = at-between2 .before in
+    let at-between = at-if1 .before in
+    λ k f n s o.
+    rw (f, passed (at-between .between .ensures) (at-if1 .if1 .left), n, passed (at-between2 .between2 .ensures) (at-if2 .if2 .left), eq-eqb _ _ (at-if3 .if3 .taken), s, ← at-highest-state .highest-state .ensures, failed (at-between3 .between3 .ensures) (c .if4 .taken))
 
 feature-set-requires : tie.Need-feature-set-requires
 feature-set-requires c κs = search needs

@@ -52,13 +52,20 @@ fill-key-requires c κs = search needs
 
 returns-3 : tie.Need-returns-3
 returns-3 c =
-    let a = c .before .before .before .before .before .before .before .before .before .before .args in
+    let at-u64-at2 = c .before in
+    let at-u64-at = at-u64-at2 .before in
+    let at-if3 = at-u64-at .before in
+    let at-u16-at2 = at-if3 .before in
+    let at-u16-at = at-u16-at2 .before .before .before in
+    let at-if1 = at-u16-at .before in
+    let entry = at-if1 .before .before in
+    let a = entry .args in
     let k = part (a .area .now) (a .at) sectorSize in
     λ d lock size.
-    c .fill-key .ensures k (number-of 2 (a .area .now) (a .at) sectorSize 2 (omega arith) (c .before .before .before .before .u16-at2 .ensures))
-    (number-of 8 (a .area .now) (a .at) sectorSize 4 (omega arith) (c .before .before .u64-at .ensures))
-    (number-of 8 (a .area .now) (a .at) sectorSize 12 (omega arith) (c .before .u64-at2 .ensures))
-    ∙ with-fill (a .locked) (a .visible) k d lock size (c .before .before .before .before .before .before .before .before .if1 .left) (number-first 2 (a .area .now) (a .at) sectorSize (omega arith) (c .before .before .before .before .before .before .before .u16-at .ensures) ∙ c .before .before .before .if3 .taken)
+    c .fill-key .ensures k (number-of 2 (a .area .now) (a .at) sectorSize 2 (omega arith) (at-u16-at2 .u16-at2 .ensures))
+    (number-of 8 (a .area .now) (a .at) sectorSize 4 (omega arith) (at-u64-at .u64-at .ensures))
+    (number-of 8 (a .area .now) (a .at) sectorSize 12 (omega arith) (at-u64-at2 .u64-at2 .ensures))
+    ∙ with-fill (a .locked) (a .visible) k d lock size (at-if1 .if1 .left) (number-first 2 (a .area .now) (a .at) sectorSize (omega arith) (at-u16-at .u16-at .ensures) ∙ at-if3 .if3 .taken)
 
 add-u16-at-2 : tie.Need-add-u16-at-2
 add-u16-at-2 c = search needs
@@ -77,11 +84,18 @@ timer-key-requires c κs = search needs
 
 returns-4 : tie.Need-returns-4
 returns-4 c =
-    let a = c .before .before .before .before .before .before .before .before .before .before .before .args in
+    let at-if4 = c .before in
+    let at-u16-at4 = at-if4 .before in
+    let at-u16-at3 = at-u16-at4 .before in
+    let at-u16-at2 = at-u16-at3 .before .before in
+    let at-u16-at = at-u16-at2 .before .before .before in
+    let at-if1 = at-u16-at .before in
+    let entry = at-if1 .before .before in
+    let a = entry .args in
     let k = part (a .area .now) (a .at) sectorSize in
     λ d lock size.
-    c .timer-key .ensures k (number-of 2 (a .area .now) (a .at) sectorSize 2 (omega arith) (c .before .before .before .before .before .u16-at2 .ensures)) (number-of 2 (a .area .now) (a .at) sectorSize 4 (omega arith) (c .before .before .before .u16-at3 .ensures)) (number-of 2 (a .area .now) (a .at) sectorSize 6 (omega arith) (c .before .before .u16-at4 .ensures))
-    ∙ with-timer (a .locked) (a .visible) k d lock size (c .before .before .before .before .before .before .before .before .before .if1 .left) (number-first 2 (a .area .now) (a .at) sectorSize (omega arith) (c .before .before .before .before .before .before .before .before .u16-at .ensures) ∙ c .before .if4 .taken)
+    c .timer-key .ensures k (number-of 2 (a .area .now) (a .at) sectorSize 2 (omega arith) (at-u16-at2 .u16-at2 .ensures)) (number-of 2 (a .area .now) (a .at) sectorSize 4 (omega arith) (at-u16-at3 .u16-at3 .ensures)) (number-of 2 (a .area .now) (a .at) sectorSize 6 (omega arith) (at-u16-at4 .u16-at4 .ensures))
+    ∙ with-timer (a .locked) (a .visible) k d lock size (at-if1 .if1 .left) (number-first 2 (a .area .now) (a .at) sectorSize (omega arith) (at-u16-at .u16-at .ensures) ∙ at-if4 .if4 .taken)
 
 add-u16-at-4 : tie.Need-add-u16-at-4
 add-u16-at-4 c = search needs
@@ -94,27 +108,45 @@ feature-key-requires c κs = search needs
 
 returns-5 : tie.Need-returns-5
 returns-5 c =
-    let a = c .before .before .before .before .before .before .before .before .before .before .before .before .before .args in
+    let at-u16-at5 = c .before in
+    let at-if5 = at-u16-at5 .before in
+    let at-u16-at4 = at-if5 .before .before in
+    let at-u16-at3 = at-u16-at4 .before in
+    let at-u16-at2 = at-u16-at3 .before .before in
+    let at-u16-at = at-u16-at2 .before .before .before in
+    let at-if1 = at-u16-at .before in
+    let entry = at-if1 .before .before in
+    let a = entry .args in
     let k = part (a .area .now) (a .at) sectorSize in
     λ d lock size.
-    c .feature-key .ensures k (number-of 2 (a .area .now) (a .at) sectorSize 2 (omega arith) (c .before .before .before .before .before .before .before .u16-at2 .ensures)) (number-of 2 (a .area .now) (a .at) sectorSize 4 (omega arith) (c .before .before .before .before .before .u16-at3 .ensures)) (number-of 2 (a .area .now) (a .at) sectorSize 6 (omega arith) (c .before .before .before .before .u16-at4 .ensures))
-    (number-of 2 (a .area .now) (a .at) sectorSize 8 (omega arith) (c .before .u16-at5 .ensures))
-    ∙ with-feature (a .locked) (a .visible) k d lock size (c .before .before .before .before .before .before .before .before .before .before .before .if1 .left) (number-first 2 (a .area .now) (a .at) sectorSize (omega arith) (c .before .before .before .before .before .before .before .before .before .before .u16-at .ensures) ∙ c .before .before .if5 .taken)
+    c .feature-key .ensures k (number-of 2 (a .area .now) (a .at) sectorSize 2 (omega arith) (at-u16-at2 .u16-at2 .ensures)) (number-of 2 (a .area .now) (a .at) sectorSize 4 (omega arith) (at-u16-at3 .u16-at3 .ensures)) (number-of 2 (a .area .now) (a .at) sectorSize 6 (omega arith) (at-u16-at4 .u16-at4 .ensures))
+    (number-of 2 (a .area .now) (a .at) sectorSize 8 (omega arith) (at-u16-at5 .u16-at5 .ensures))
+    ∙ with-feature (a .locked) (a .visible) k d lock size (at-if1 .if1 .left) (number-first 2 (a .area .now) (a .at) sectorSize (omega arith) (at-u16-at .u16-at .ensures) ∙ at-if5 .if5 .taken)
 
 table-key-requires : tie.Need-table-key-requires
 table-key-requires c κs = search needs
 
 returns-6 : tie.Need-returns-6
 returns-6 c =
-    let a = c .before .before .before .before .before .before .before .before .before .before .before .before .args in
+    let at-if5 = c .before in
+    let at-if4 = at-if5 .before in
+    let at-u16-at3 = at-if4 .before .before in
+    let at-if3 = at-u16-at3 .before in
+    let at-u16-at2 = at-if3 .before in
+    let at-if2 = at-u16-at2 .before in
+    let at-between = at-if2 .before in
+    let at-u16-at = at-between .before in
+    let at-if1 = at-u16-at .before in
+    let entry = at-if1 .before .before in
+    let a = entry .args in
     let k = part (a .area .now) (a .at) sectorSize in
-    let w = number-first 2 (a .area .now) (a .at) sectorSize (omega arith) (c .before .before .before .before .before .before .before .before .before .u16-at .ensures) in
+    let w = number-first 2 (a .area .now) (a .at) sectorSize (omega arith) (at-u16-at .u16-at .ensures) in
     λ d lock size.
-    c .table-key .ensures k (number-of 2 (a .area .now) (a .at) sectorSize 2 (omega arith) (c .before .before .before .before .before .before .u16-at2 .ensures)) (number-of 2 (a .area .now) (a .at) sectorSize 4 (omega arith) (c .before .before .before .before .u16-at3 .ensures))
-    ∙ with-table (a .locked) (a .visible) k d lock size (c .before .before .before .before .before .before .before .before .before .before .if1 .left) (rw w (passed (c .before .before .before .before .before .before .before .before .between .ensures) (c .before .before .before .before .before .before .before .if2 .left)))
-    (λ e. c .before .before .before .before .before .if3 .left (sym w ∙ e))
-    (λ e. c .before .before .if4 .left (sym w ∙ e))
-    (λ e. c .before .if5 .left (sym w ∙ e))
+    c .table-key .ensures k (number-of 2 (a .area .now) (a .at) sectorSize 2 (omega arith) (at-u16-at2 .u16-at2 .ensures)) (number-of 2 (a .area .now) (a .at) sectorSize 4 (omega arith) (at-u16-at3 .u16-at3 .ensures))
+    ∙ with-table (a .locked) (a .visible) k d lock size (at-if1 .if1 .left) (rw w (passed (at-between .between .ensures) (at-if2 .if2 .left)))
+    (λ e. at-if3 .if3 .left (sym w ∙ e))
+    (λ e. at-if4 .if4 .left (sym w ∙ e))
+    (λ e. at-if5 .if5 .left (sym w ∙ e))
 
 pub read-key-spec : {M : Type 1} → statement M
 read-key-spec =

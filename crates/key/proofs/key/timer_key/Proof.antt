@@ -30,9 +30,18 @@ timer-code-requires : tie.Need-timer-code-requires
 timer-code-requires c κs = search needs
 
 returns-3 : tie.Need-returns-3
-returns-3 c = λ k f n t.
-    let a = c .before .before .before .before .before .before .before .before .before .args in
-    rw (f, passed (c .before .before .before .before .before .before .before .before .between .ensures) (c .before .before .before .before .before .before .before .if1 .left), n, passed (c .before .before .before .before .before .before .between2 .ensures) (c .before .before .before .before .before .if2 .left), eq-eqb _ _ (c .before .before .before .if3 .taken), t, sym (c .before .before .between3 .ensures) ∙ c .before .if4 .taken)
+returns-3 c =
+    let at-if4 = c .before in
+    let at-between3 = at-if4 .before in
+    let at-if3 = at-between3 .before in
+    let at-if2 = at-if3 .before .before in
+    let at-between2 = at-if2 .before in
+    let at-if1 = at-between2 .before in
+    let at-between = at-if1 .before in
+    let entry = at-between .before in
+    λ k f n t.
+    let a = entry .args in
+    rw (f, passed (at-between .between .ensures) (at-if1 .if1 .left), n, passed (at-between2 .between2 .ensures) (at-if2 .if2 .left), eq-eqb _ _ (at-if3 .if3 .taken), t, sym (at-between3 .between3 .ensures) ∙ at-if4 .if4 .taken)
     (timer-refused (a .name) (c .timer-code .result) (setTimer (timerName (a .name)) (a .time)) (c .timer-code .ensures))
 
 returns-4 : tie.Need-returns-4

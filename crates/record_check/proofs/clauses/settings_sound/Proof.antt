@@ -10,9 +10,12 @@ timer-sound-requires c κs = search needs
 timer-sound-requires-2 : tie.Need-timer-sound-requires-2
 timer-sound-requires-2 c κs = search needs
 
+states-named-requires : tie.Need-states-named-requires
+states-named-requires c κs = search needs
+
 returns : tie.Need-returns
 unfolding settingsSound
-returns c = rw (c .before .timer-sound .ensures, c .timer-sound2 .ensures)
+returns c = rw (c .before .before .timer-sound .ensures, c .before .timer-sound2 .ensures, c .states-named .ensures)
 
 pub settings-sound-spec : {M : Type 1} → statement M
-settings-sound-spec = tie.close (tie.spec timer-sound-requires timer-sound-requires-2 returns)
+settings-sound-spec = tie.close (tie.spec timer-sound-requires timer-sound-requires-2 states-named-requires returns)

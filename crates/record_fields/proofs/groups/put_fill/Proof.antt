@@ -10,8 +10,8 @@ fill-first-requires c κs = search needs
 put-u64-requires : tie.Need-put-u64-requires
 put-u64-requires c κs = search needs
 
-fill-next-requires : tie.Need-fill-next-requires
-fill-next-requires c κs = search needs
+next-sector-requires : tie.Need-next-sector-requires
+next-sector-requires c κs = search needs
 
 put-u64-requires-2 : tie.Need-put-u64-requires-2
 put-u64-requires-2 c κs = search needs
@@ -30,14 +30,14 @@ returns c =
     let at-put-u643 = c .before .before in
     let at-fill-end = at-put-u643 .before in
     let at-put-u642 = at-fill-end .before .before .before .before in
-    let at-fill-next = at-put-u642 .before in
-    let at-put-u64 = at-fill-next .before .before .before .before in
+    let at-next-sector = at-put-u642 .before in
+    let at-put-u64 = at-next-sector .before .before .before .before in
     let at-fill-first = at-put-u64 .before in (
       rw (
         at-put-u643 .put-u643 .ensures,
         at-fill-end .fill-end .ensures,
         at-put-u642 .put-u642 .ensures,
-        at-fill-next .fill-next .ensures,
+        at-next-sector .next-sector .ensures,
         at-put-u64 .put-u64 .ensures,
         at-fill-first .fill-first .ensures,
       ),
@@ -45,8 +45,8 @@ returns c =
         arith,
         at-fill-first .fill-first .ensures,
         at-fill-first .fill-first .ok,
-        at-fill-next .fill-next .ensures,
-        at-fill-next .fill-next .ok,
+        at-next-sector .next-sector .ensures,
+        at-next-sector .next-sector .ok,
         at-fill-end .fill-end .ensures,
         at-fill-end .fill-end .ok,
       ),
@@ -58,7 +58,7 @@ put-fill-spec =
     (tie.spec
     fill-first-requires
     put-u64-requires
-    fill-next-requires
+    next-sector-requires
     put-u64-requires-2
     fill-end-requires
     put-u64-requires-3

@@ -52,11 +52,11 @@ returns c =
     let entry = at-put-u16 .before .before .before in (
       rw (
         at-put-u83 .put-u83 .ensures,
-        at-bit-of3 .bit-of3 .ensures,
+        at-bit-of3 .bit-of3 .ensures .0,
         at-put-u82 .put-u82 .ensures,
-        at-bit-of2 .bit-of2 .ensures,
+        at-bit-of2 .bit-of2 .ensures .0,
         at-put-u8 .put-u8 .ensures,
-        at-bit-of .bit-of .ensures,
+        at-bit-of .bit-of .ensures .0,
         at-put-u164 .put-u164 .ensures,
         at-put-u163 .put-u163 .ensures,
         at-put-u162 .put-u162 .ensures,
@@ -65,11 +65,11 @@ returns c =
       omega (
         arith,
         entry .good,
-        at-bit-of .bit-of .ensures,
+        at-bit-of .bit-of .ensures .0,
         at-bit-of .bit-of .ok,
-        at-bit-of2 .bit-of2 .ensures,
+        at-bit-of2 .bit-of2 .ensures .0,
         at-bit-of2 .bit-of2 .ok,
-        at-bit-of3 .bit-of3 .ensures,
+        at-bit-of3 .bit-of3 .ensures .0,
         at-bit-of3 .bit-of3 .ok,
       ),
     )

@@ -36,13 +36,13 @@ returns c =
     let entry = at-put-u64 .before .before .before in (
       rw (
         at-put-u82 .put-u82 .ensures,
-        at-bit-of2 .bit-of2 .ensures,
+        at-bit-of2 .bit-of2 .ensures .0,
         at-put-u8 .put-u8 .ensures,
-        at-bit-of .bit-of .ensures,
+        at-bit-of .bit-of .ensures .0,
         at-put-u642 .put-u642 .ensures,
         at-put-u64 .put-u64 .ensures,
       ),
-      omega (arith, entry .good, at-bit-of .bit-of .ensures, at-bit-of .bit-of .ok, at-bit-of2 .bit-of2 .ensures, at-bit-of2 .bit-of2 .ok),
+      omega (arith, entry .good, at-bit-of .bit-of .ensures .0, at-bit-of .bit-of .ok, at-bit-of2 .bit-of2 .ensures .0, at-bit-of2 .bit-of2 .ok),
     )
 
 pub put-sizes-spec : {M : Type 1} → statement M

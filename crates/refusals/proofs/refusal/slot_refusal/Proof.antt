@@ -1,9 +1,9 @@
 -- `refusals::slot_refusal` meets its contract.
-use mathlib.Core.Path.{_∙_, ap, sym}
-use borrow.Author.Tests.{le-ltb, lt-ltb}
+use mathlib.Core.Path.{_≡_, _∙_, ap, sym}
+use borrow.Author.Tests.{le-ltb, lt-ltb, eq-eqb, ne-eqb}
+use Rattle.store.specs.Record.{stageNumber, decode}
+use Rattle.store.specs.Store.{stageFor}
 use Rattle.store.proofs.StageLaws.{stage-read}
-use Rattle.wire.proofs.ChoiceLaws.{passed, failed}
-use Rattle.refusals.specs.Needed.{isStage}
 use Rattle.record.specs.DeviceMeaning.{asStage}
 use borrow.Author.Needs.{needs}
 use Rattle.refusals.proofs.refusal.slot_refusal.Statement.{statement}
@@ -15,25 +15,37 @@ returns c = rw (le-ltb (c .before .before .args .port) 4 (c .if1 .taken))
 stage-at-requires : tie.Need-stage-at-requires
 stage-at-requires c κs = search needs
 
-is-stage-requires : tie.Need-is-stage-requires
-is-stage-requires c κs = search needs
+stage-number-requires : tie.Need-stage-number-requires
+stage-number-requires c κs = search needs
+
+stage-number-requires-2 : tie.Need-stage-number-requires-2
+stage-number-requires-2 c κs = search needs
+
+-- the number that is compared is that of the stage in the record
+number : (c : tie.After-stage-number2) → let a = c .before .before .before .before .before .args in c .before .stage-number .result ≡ stageNumber (stageFor (a .port) (decode (a .device .now)))
+number c =
+    let at-stage-number = c .before in
+    let at-stage-at = at-stage-number .before in
+    let at-if1 = at-stage-at .before in
+    let entry = at-if1 .before .before in
+    at-stage-number .stage-number .ensures ∙ ap stageNumber (at-stage-at .stage-at .ensures ∙ sym (stage-read (entry .args .device .now) (entry .args .port) (at-if1 .if1 .left)))
 
 returns-2 : tie.Need-returns-2
 returns-2 c =
-    let at-is-stage = c .before in
-    let at-stage-at = at-is-stage .before in
-    let at-if1 = at-stage-at .before in
-    let entry = at-if1 .before .before in
-    rw (lt-ltb (entry .args .port) 4 (at-if1 .if1 .left), failed (at-is-stage .is-stage .ensures ∙ ap (isStage (asStage (entry .args .needed))) (at-stage-at .stage-at .ensures ∙ sym (stage-read (entry .args .device .now) (entry .args .port) (at-if1 .if1 .left)))) (c .if2 .taken))
+    let at-numbers = c .before in
+    let at-if1 = at-numbers .before .before .before in
+    let a = at-if1 .before .before .args in
+    let needed = at-numbers .stage-number2 .ensures in
+    rw (lt-ltb (a .port) 4 (at-if1 .if1 .left), ne-eqb (stageNumber (stageFor (a .port) (decode (a .device .now)))) (stageNumber (asStage (a .needed))) (λ e. c .if2 .taken (number at-numbers ∙ e ∙ sym needed)))
 
 returns-3 : tie.Need-returns-3
 returns-3 c =
-    let at-is-stage = c .before in
-    let at-stage-at = at-is-stage .before in
-    let at-if1 = at-stage-at .before in
-    let entry = at-if1 .before .before in
-    rw (lt-ltb (entry .args .port) 4 (at-if1 .if1 .left), passed (at-is-stage .is-stage .ensures ∙ ap (isStage (asStage (entry .args .needed))) (at-stage-at .stage-at .ensures ∙ sym (stage-read (entry .args .device .now) (entry .args .port) (at-if1 .if1 .left)))) (c .if2 .left))
+    let at-numbers = c .before in
+    let at-if1 = at-numbers .before .before .before in
+    let a = at-if1 .before .before .args in
+    let needed = at-numbers .stage-number2 .ensures in
+    rw (lt-ltb (a .port) 4 (at-if1 .if1 .left), eq-eqb (stageNumber (stageFor (a .port) (decode (a .device .now)))) (stageNumber (asStage (a .needed))) (sym (number at-numbers) ∙ c .if2 .left ∙ needed))
 
 pub slot-refusal-spec : {M : Type 1} → statement M
 slot-refusal-spec =
-    tie.close (tie.spec returns stage-at-requires is-stage-requires returns-2 returns-3)
+    tie.close (tie.spec returns stage-at-requires stage-number-requires stage-number-requires-2 returns-2 returns-3)

@@ -19,8 +19,11 @@ same-length c = search needs
 
 returns : tie.Need-returns
 returns c =
-    let a = c .before .before .before .before .before .before .before .before .before .args in
-    rw (c .before .before .zero-part .ensures, c .before .before .before .before .before .before .put-registers .ensures) (reply-cleared (a .area .now) (a .at) (asRegisters (a .r)))
+    let at-zero-part = c .before .before in
+    let at-put-registers = at-zero-part .before .before .before .before in
+    let entry = at-put-registers .before .before .before in
+    let a = entry .args in
+    rw (at-zero-part .zero-part .ensures, at-put-registers .put-registers .ensures) (reply-cleared (a .area .now) (a .at) (asRegisters (a .r)))
 
 pub put-reply-spec : {M : Type 1} → statement M
 put-reply-spec =

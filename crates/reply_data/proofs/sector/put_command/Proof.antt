@@ -24,8 +24,8 @@ put-u16-requires-3 c κs = search needs
 add-put-u64 : tie.Need-add-put-u64
 add-put-u64 c = search needs
 
-current-lba-requires : tie.Need-current-lba-requires
-current-lba-requires c κs = search needs
+next-sector-requires : tie.Need-next-sector-requires
+next-sector-requires c κs = search needs
 
 put-u64-requires : tie.Need-put-u64-requires
 put-u64-requires c κs = search needs
@@ -34,7 +34,13 @@ same-length : tie.Need-same-length
 same-length c = search needs
 
 returns : tie.Need-returns
-returns c = rw (c .before .before .put-u64 .ensures, c .before .before .before .current-lba .ensures, c .before .before .before .before .before .before .before .put-u163 .ensures, c .before .before .before .before .before .before .before .before .before .before .before .put-u162 .ensures, c .before .before .before .before .before .before .before .before .before .before .before .before .before .before .before .put-u16 .ensures)
+returns c =
+    let at-put-u64 = c .before .before in
+    let at-next-sector = at-put-u64 .before in
+    let at-put-u163 = at-next-sector .before .before .before .before in
+    let at-put-u162 = at-put-u163 .before .before .before .before in
+    let at-put-u16 = at-put-u162 .before .before .before .before in
+    rw (at-put-u64 .put-u64 .ensures, at-next-sector .next-sector .ensures, at-put-u163 .put-u163 .ensures, at-put-u162 .put-u162 .ensures, at-put-u16 .put-u16 .ensures)
 
 pub put-command-spec : {M : Type 1} → statement M
 put-command-spec =
@@ -47,7 +53,7 @@ put-command-spec =
     add-put-u16-3
     put-u16-requires-3
     add-put-u64
-    current-lba-requires
+    next-sector-requires
     put-u64-requires
     same-length
     returns)

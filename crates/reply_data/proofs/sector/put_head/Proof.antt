@@ -22,8 +22,11 @@ put-u16-requires-3 c κs = search needs
 add-put-u32 : tie.Need-add-put-u32
 add-put-u32 c = search needs
 
-flags-requires : tie.Need-flags-requires
-flags-requires c κs = search needs
+bit-of-requires : tie.Need-bit-of-requires
+bit-of-requires c κs = search needs
+
+cast-put-u32 : tie.Need-cast-put-u32
+cast-put-u32 c = search needs
 
 put-u32-requires : tie.Need-put-u32-requires
 put-u32-requires c κs = search needs
@@ -42,8 +45,24 @@ same-length c = search needs
 
 returns : tie.Need-returns
 returns c =
-    let a = c .before .before .before .before .before .before .before .before .before .before .before .before .before .before .before .before .before .before .before .before .before .before .before .args in
-    rw (c .before .before .put-u8 .ensures, c .before .before .before .drive-state .ensures, c .before .before .before .before .before .before .before .put-u32 .ensures, c .before .before .before .before .before .before .before .before .flags .ensures, c .before .before .before .before .before .before .before .before .before .before .before .before .put-u163 .ensures, c .before .before .before .before .before .before .before .before .before .before .before .before .before .before .before .before .put-u162 .ensures, c .before .before .before .before .before .before .before .before .before .before .before .before .before .before .before .before .before .before .before .before .put-u16 .ensures, add-zero (a .at))
+    let at-put-u8 = c .before .before in
+    let at-drive-state = at-put-u8 .before in
+    let at-put-u32 = at-drive-state .before .before .before .before in
+    let at-bit-of = at-put-u32 .before in
+    let at-put-u163 = at-bit-of .before .before .before .before in
+    let at-put-u162 = at-put-u163 .before .before .before .before in
+    let at-put-u16 = at-put-u162 .before .before .before .before in
+    let a = at-put-u16 .before .before .before .args in
+    rw (
+      at-put-u8 .put-u8 .ensures,
+      at-drive-state .drive-state .ensures,
+      at-put-u32 .put-u32 .ensures,
+      at-bit-of .bit-of .ensures .0,
+      at-put-u163 .put-u163 .ensures,
+      at-put-u162 .put-u162 .ensures,
+      at-put-u16 .put-u16 .ensures,
+      add-zero (a .at),
+    )
 
 pub put-head-spec : {M : Type 1} → statement M
 put-head-spec =
@@ -55,7 +74,8 @@ put-head-spec =
     add-put-u16-2
     put-u16-requires-3
     add-put-u32
-    flags-requires
+    bit-of-requires
+    cast-put-u32
     put-u32-requires
     add-put-u8
     drive-state-requires

@@ -34,9 +34,15 @@ same-length c = search needs
 
 returns : tie.Need-returns
 unfolding statusSector
-returns c = λ h.
-    let a = c .before .before .before .before .before .before .before .before .before .before .before .before .before .before .before .before .before .before .before .args in
-    rw (c .before .before .put-temperatures .ensures, c .before .before .before .before .before .before .before .put-command .ensures, c .before .before .before .before .before .before .before .before .before .before .before .put-head .ensures, c .before .before .before .before .before .before .before .before .before .before .before .before .before .before .before .before .put-reply .ensures)
+returns c =
+    let at-put-temperatures = c .before .before in
+    let at-put-command = at-put-temperatures .before .before .before .before .before in
+    let at-put-head = at-put-command .before .before .before .before in
+    let at-put-reply = at-put-head .before .before .before .before .before in
+    let entry = at-put-reply .before .before .before in
+    λ h.
+    let a = entry .args in
+    rw (at-put-temperatures .put-temperatures .ensures, at-put-command .put-command .ensures, at-put-head .put-head .ensures, at-put-reply .put-reply .ensures)
     (reply-form (a .area .now) (a .at) (asRegisters (a .reply)) (statusFields (asDevice (a .d) h)) refl)
 
 pub put-status-spec : {M : Type 1} → statement M

@@ -24,8 +24,11 @@ same-length c = search needs
 
 returns : tie.Need-returns
 returns c =
-    let a = c .before .before .before .before .before .before .before .before .before .before .args in
-    rw (c .before .before .copy-part .ensures, c .before .before .before .before .before .before .put-registers .ensures)
+    let at-copy-part = c .before .before in
+    let at-put-registers = at-copy-part .before .before .before .before in
+    let entry = at-put-registers .before .before .before .before in
+    let a = entry .args in
+    rw (at-copy-part .copy-part .ensures, at-put-registers .put-registers .ensures)
     (reply-stored (a .area .now) (a .at) (asRegisters (a .reply)) (part (a .device .now) headSize sectorSize) (length-part (a .device .now) headSize sectorSize (omega arith)))
 
 pub put-table-spec : {M : Type 1} → statement M

@@ -25,7 +25,11 @@ same-length : tie.Need-same-length
 same-length c = search needs
 
 returns : tie.Need-returns
-returns c = rw (c .before .before .put-u83 .ensures, c .before .before .before .before .before .before .put-u82 .ensures, c .before .before .before .before .before .before .before .before .before .before .put-u8 .ensures)
+returns c =
+    let at-put-u83 = c .before .before in
+    let at-put-u82 = at-put-u83 .before .before .before .before in
+    let at-put-u8 = at-put-u82 .before .before .before .before in
+    rw (at-put-u83 .put-u83 .ensures, at-put-u82 .put-u82 .ensures, at-put-u8 .put-u8 .ensures)
 
 pub put-temperatures-spec : {M : Type 1} → statement M
 put-temperatures-spec =

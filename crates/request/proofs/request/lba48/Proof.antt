@@ -57,19 +57,27 @@ add-result c = search needs
 
 returns : tie.Need-returns
 returns c =
-    let a = c .before .before .before .before .before .before .before .before .before .args in
+    let at-u8-at6 = c .before in
+    let at-u8-at5 = at-u8-at6 .before in
+    let at-u8-at4 = at-u8-at5 .before in
+    let at-join24 = at-u8-at4 .before in
+    let at-u8-at3 = at-join24 .before in
+    let at-u8-at2 = at-u8-at3 .before in
+    let at-u8-at = at-u8-at2 .before in
+    let entry = at-u8-at .before .before in
+    let a = entry .args in
     let l = a .area .now in
-    lba-of (part l (a .at) mailboxSize) (c .before .before .before .before .join24 .result) (c .join242 .result)
+    lba-of (part l (a .at) mailboxSize) (at-join24 .join24 .result) (c .join242 .result)
     (rw (
-      byte-of l (a .at) 4 (omega arith) (c .before .before .before .before .before .before .before .u8-at .ensures),
-      byte-of l (a .at) 6 (omega arith) (c .before .before .before .before .before .before .u8-at2 .ensures),
-      byte-of l (a .at) 8 (omega arith) (c .before .before .before .before .before .u8-at3 .ensures),
+      byte-of l (a .at) 4 (omega arith) (at-u8-at .u8-at .ensures),
+      byte-of l (a .at) 6 (omega arith) (at-u8-at2 .u8-at2 .ensures),
+      byte-of l (a .at) 8 (omega arith) (at-u8-at3 .u8-at3 .ensures),
     )
-    (c .before .before .before .before .join24 .ensures))
+    (at-join24 .join24 .ensures))
     (rw (
-      byte-of l (a .at) 5 (omega arith) (c .before .before .before .u8-at4 .ensures),
-      byte-of l (a .at) 7 (omega arith) (c .before .before .u8-at5 .ensures),
-      byte-of l (a .at) 9 (omega arith) (c .before .u8-at6 .ensures),
+      byte-of l (a .at) 5 (omega arith) (at-u8-at4 .u8-at4 .ensures),
+      byte-of l (a .at) 7 (omega arith) (at-u8-at5 .u8-at5 .ensures),
+      byte-of l (a .at) 9 (omega arith) (at-u8-at6 .u8-at6 .ensures),
     )
     (c .join242 .ensures))
 

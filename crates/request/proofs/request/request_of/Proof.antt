@@ -68,14 +68,21 @@ sector-requires-2 c κs = search needs
 returns-5 : tie.Need-returns-5
 unfolding requestOf
 returns-5 c =
-    let a = c .before .before .before .before .before .before .before .before .args in
+    let at-if5 = c .before in
+    let at-if4 = at-if5 .before in
+    let at-if3 = at-if4 .before in
+    let at-if2 = at-if3 .before in
+    let at-if1 = at-if2 .before in
+    let at-u8-at = at-if1 .before in
+    let entry = at-u8-at .before .before in
+    let a = entry .args in
     rw (
-      byte-of (a .area .now) (a .at) 11 (omega arith) (c .before .before .before .before .before .before .u8-at .ensures),
-      ne-eqb _ _ (c .before .before .before .before .before .if1 .left),
-      ne-eqb _ _ (c .before .before .before .before .if2 .left),
-      ne-eqb _ _ (c .before .before .before .if3 .left),
-      ne-eqb _ _ (c .before .before .if4 .left),
-      eq-eqb _ _ (c .before .if5 .taken),
+      byte-of (a .area .now) (a .at) 11 (omega arith) (at-u8-at .u8-at .ensures),
+      ne-eqb _ _ (at-if1 .if1 .left),
+      ne-eqb _ _ (at-if2 .if2 .left),
+      ne-eqb _ _ (at-if3 .if3 .left),
+      ne-eqb _ _ (at-if4 .if4 .left),
+      eq-eqb _ _ (at-if5 .if5 .taken),
     )
     (c .sector2 .ensures)
 

@@ -44,11 +44,18 @@ powered-requires c κs = search needs
 returns : tie.Need-returns
 unfolding savedAt
 returns c =
-    let a = c .before .before .before .before .before .before .before .before .args in
+    let at-kept-index = c .before in
+    let at-saved-settings = at-kept-index .before in
+    let at-u8-at2 = at-saved-settings .before in
+    let at-u8-at = at-u8-at2 .before in
+    let at-u64-at2 = at-u8-at .before in
+    let at-u64-at = at-u64-at2 .before in
+    let entry = at-u64-at .before .before in
+    let a = entry .args in
     let s = savedAt (a .image .now) (a .at) in
-    let es = c .before .before .saved-settings .ensures in (
-      c .powered .ensures .0 s (c .before .before .before .before .before .before .u64-at .ensures) (c .before .before .before .before .before .u64-at2 .ensures) (ap (λ (n : ℕ). eqb n 1) (c .before .before .before .before .u8-at .ensures)) (c .before .before .before .u8-at2 .ensures) es
-          (index-kept s _ _ es (c .before .kept-index .ensures)),
+    let es = at-saved-settings .saved-settings .ensures in (
+      c .powered .ensures .0 s (at-u64-at .u64-at .ensures) (at-u64-at2 .u64-at2 .ensures) (ap (λ (n : ℕ). eqb n 1) (at-u8-at .u8-at .ensures)) (at-u8-at2 .u8-at2 .ensures) es
+          (index-kept s _ _ es (at-kept-index .kept-index .ensures)),
       c .powered .ensures .1,
     )
 

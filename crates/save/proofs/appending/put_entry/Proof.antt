@@ -35,9 +35,15 @@ same-length c = search needs
 
 returns : tie.Need-returns
 returns c =
-    let a = c .before .before .before .before .before .before .before .before .before .before .before .before .before .before .before .before .before .before .args in
-    rw (c .before .before .put-trailer .ensures, c .before .before .before .before .before .before .copy-part .ensures, c .before .before .before .before .before .before .before .before .before .before .put-features .ensures, c .before .before .before .before .before .before .before .before .before .before .before .before .before .before .put-sizes .ensures)
-    (entry-stored (a .device .now) (a .image .now) (a .used) _ (λ i. omega (arith, c .before .before .before .before .before .before .before .before .before .before .before .before .before .before .before .before .shared-slice-known .given i)) (c .before .before .before .before .before .before .before .before .before .before .before .before .before .before .before .before .before .before .pre .0) (omega arith))
+    let at-put-trailer = c .before .before in
+    let at-copy-part = at-put-trailer .before .before .before .before in
+    let at-put-features = at-copy-part .before .before .before .before in
+    let at-put-sizes = at-put-features .before .before .before .before in
+    let known = at-put-sizes .before .before in
+    let entry = known .before .before in
+    let a = entry .args in
+    rw (at-put-trailer .put-trailer .ensures, at-copy-part .copy-part .ensures, at-put-features .put-features .ensures, at-put-sizes .put-sizes .ensures)
+    (entry-stored (a .device .now) (a .image .now) (a .used) _ (λ i. omega (arith, known .shared-slice-known .given i)) (entry .pre .0) (omega arith))
 
 pub put-entry-spec : {M : Type 1} → statement M
 put-entry-spec =

@@ -39,8 +39,15 @@ same-length c = search needs
 
 returns : tie.Need-returns
 returns c =
-    let a = c .before .before .before .before .before .before .before .before .before .before .before .before .before .before .before .before .before .before .before .before .before .before .before .args in
-    rw (c .before .before .copy-part .ensures, c .before .before .before .before .before .before .before .put-u323 .ensures, c .before .before .before .before .before .before .before .before .before .before .before .put-u322 .ensures, c .before .before .before .before .before .before .before .before .before .before .before .before .previous-place .ensures, c .before .before .before .before .before .before .before .before .before .before .before .before .before .before .before .before .put-u32 .ensures, c .before .before .before .before .before .before .before .before .before .before .before .before .before .before .before .before .before .before .before .before .zero-part .ensures)
+    let at-copy-part = c .before .before in
+    let at-put-u323 = at-copy-part .before .before .before .before .before in
+    let at-put-u322 = at-put-u323 .before .before .before .before in
+    let at-previous-place = at-put-u322 .before in
+    let at-put-u32 = at-previous-place .before .before .before .before in
+    let at-zero-part = at-put-u32 .before .before .before .before in
+    let entry = at-zero-part .before .before .before in
+    let a = entry .args in
+    rw (at-copy-part .copy-part .ensures, at-put-u323 .put-u323 .ensures, at-put-u322 .put-u322 .ensures, at-previous-place .previous-place .ensures, at-put-u32 .put-u32 .ensures, at-zero-part .zero-part .ensures)
     (trailer-stored (a .image .now) (a .at) (a .number))
 
 pub put-trailer-spec : {M : Type 1} → statement M

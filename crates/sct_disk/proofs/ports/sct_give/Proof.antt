@@ -3,8 +3,7 @@ use mathlib.Core.Path.{refl}
 use native.Mathlib.Omega.{arith}
 use Rattle.wire.proofs.PartsLaws.{length-part, sets-whole}
 use Rattle.model.specs.Sizes.{mailboxSize}
-use Rattle.store.specs.Record.{empty}
-use Rattle.store.specs.Entries.{isAnswered}
+use Rattle.store.specs.Record.{empty, answered}
 use Rattle.store.specs.Areas.{slotPlace}
 use Rattle.refusals.proofs.CheckLaws.{MailboxPassed, mailbox-passed}
 use Rattle.sct_disk.proofs.StepExits.{sound-stage, give-refused, give-done}
@@ -16,7 +15,7 @@ use Rattle.sct_disk.proofs.ports.sct_give.Tie as tie
 passed : (c : tie.Else1) → let a = c .before .before .before .before .before .before .args in MailboxPassed (a .device .now) (a .port) (a .mailbox .now) (a .area .now)
 passed c =
     let a = c .before .before .before .before .before .before .args in
-    mailbox-passed isAnswered (a .device .now) (a .port) (a .mailbox .now) (a .area .now) (c .before .mailbox-refusal .ensures (a .mailbox .now) (a .area .now) refl refl) (c .if1 .left)
+    mailbox-passed answered (a .device .now) (a .port) (a .mailbox .now) (a .area .now) (c .before .mailbox-refusal .ensures (a .mailbox .now) (a .area .now) refl refl) (c .if1 .left)
 
 mailbox-refusal-requires : tie.Need-mailbox-refusal-requires
 mailbox-refusal-requires c κs = search needs

@@ -7,8 +7,7 @@ use lib.Seq.{sets}
 use Rattle.wire.proofs.PartsLaws.{part-whole}
 use Rattle.model.specs.Sizes.{mailboxSize}
 use Rattle.store.specs.Areas.{slotPlace}
-use Rattle.store.specs.Record.{held}
-use Rattle.store.specs.Entries.{isEmpty}
+use Rattle.store.specs.Record.{empty, held}
 use Rattle.refusals.proofs.CheckLaws.{MailboxPassed, mailbox-passed}
 use Rattle.sct_disk.proofs.StepExits.{sound-stage, take-refused, take-done}
 use borrow.Author.Needs.{needs}
@@ -19,7 +18,7 @@ use Rattle.sct_disk.proofs.ports.sct_take.Tie as tie
 passed : (c : tie.Else1) → let a = c .before .before .before .before .before .before .args in MailboxPassed (a .device .now) (a .port) (a .mailbox .now) (a .area .now)
 passed c =
     let a = c .before .before .before .before .before .before .args in
-    mailbox-passed isEmpty (a .device .now) (a .port) (a .mailbox .now) (a .area .now) (c .before .mailbox-refusal .ensures (a .mailbox .now) (a .area .now) refl refl) (c .if1 .left)
+    mailbox-passed empty (a .device .now) (a .port) (a .mailbox .now) (a .area .now) (c .before .mailbox-refusal .ensures (a .mailbox .now) (a .area .now) refl refl) (c .if1 .left)
 
 mailbox-refusal-requires : tie.Need-mailbox-refusal-requires
 mailbox-refusal-requires c κs = search needs

@@ -24,8 +24,11 @@ same-length c = search needs
 
 returns : tie.Need-returns
 returns c =
-    let a = c .before .before .before .before .before .before .before .before .before .args in
-    rw (c .before .before .put-u162 .ensures, c .before .before .before .before .before .before .put-u16 .ensures)
+    let at-put-u162 = c .before .before in
+    let at-put-u16 = at-put-u162 .before .before .before .before in
+    let entry = at-put-u16 .before .before .before in
+    let a = entry .args in
+    rw (at-put-u162 .put-u162 .ensures, at-put-u16 .put-u16 .ensures)
     (put-halves 2 2 (a .s .now) (a .at) (a .v))
 
 pub put-u32-spec : {M : Type 1} → statement M

@@ -24,8 +24,11 @@ same-length c = search needs
 
 returns : tie.Need-returns
 returns c =
-    let a = c .before .before .before .before .before .before .before .before .before .args in
-    rw (c .before .before .put-u322 .ensures, c .before .before .before .before .before .before .put-u32 .ensures)
+    let at-put-u322 = c .before .before in
+    let at-put-u32 = at-put-u322 .before .before .before .before in
+    let entry = at-put-u32 .before .before .before in
+    let a = entry .args in
+    rw (at-put-u322 .put-u322 .ensures, at-put-u32 .put-u32 .ensures)
     (put-halves 4 4 (a .s .now) (a .at) (a .v))
 
 pub put-u64-spec : {M : Type 1} → statement M

@@ -1,2 +1,0 @@
--- What a step needs of its slot.
-pub mod Needed
