@@ -11,6 +11,7 @@ use Rattle.model.specs.Registers.{Direction, read, write, Request, statu
 use Rattle.model.specs.Key.{word, FeatureName, writeCache, reordering, logInterval, Action, fillPattern, fillSector, setTimer, returnTimer, setFeature, returnState, returnOption, sendTable, Verdict, accepted, rejected, judgeKey}
 use Rattle.model.specs.Temperature.{historyEmptied}
 use Rattle.model.specs.Fill.{interrupt}
+use Rattle.model.specs.Buffers.{Mailbox, Sector}
 
 -- What a serve is fed: a record, since W-211 adds a field.
 pub record Serving : Type 0 where
@@ -21,8 +22,8 @@ pub record Serving : Type 0 where
 -- nothing; a sector, with its LBA and content; or a fill that begins, with its first sector, its end and its sector
 pub data Writing : Type 0 where
   noWrite : Writing
-  oneSector : ℕ → List ℕ → Writing
-  newFill : ℕ → ℕ → List ℕ → Writing
+  oneSector : ℕ → Sector → Writing
+  newFill : ℕ → ℕ → Sector → Writing
 
 -- nothing; the status sector; the temperature table; or the sector at an LBA
 pub data Sending : Type 0 where
@@ -109,7 +110,7 @@ decideVerdict (accepted a) p d = carryOut a p (withCode 0x0000 d)
 decideVerdict (rejected code) p d = decision (withCode code d) (refusedWith code) nothing
 
 -- "Words 0 and 1 are action and function; both are recorded from every key, accepted or not."
-unfoldable pub decideKey : ℕ → List ℕ → Device → Decision
+unfoldable pub decideKey : ℕ → Mailbox → Device → Decision
 decideKey p k d = decideVerdict (judgeKey d k) p (withKey (word k 0) (word k 1) d)
 
 -- ---- data
@@ -132,13 +133,13 @@ sectorsOf (fillData first end) = 1
 abbrev pub dataChecks : Bool → Direction → ℕ → Transfer → List Check
 dataChecks locked dir count t = (not locked, 0x0012) ∷ (moves dir t, 0x000B) ∷ (eqb count (sectorsOf t), 0x0003) ∷ []
 
-abbrev pub transferEffect : Transfer → List ℕ → Effect
+abbrev pub transferEffect : Transfer → Mailbox → Effect
 transferEffect none sector = nothing
 transferEffect table sector = sending temperatures
 transferEffect (fillData first end) sector = writing (newFill first end sector)
 
 -- "Each becomes the stored code." "A completed transfer stores 0000h, or FFFFh where it starts a fill."
-unfoldable pub decideData : Direction → ℕ → Transfer → List ℕ → Device → Decision
+unfoldable pub decideData : Direction → ℕ → Transfer → Mailbox → Device → Decision
 decideData dir count t sector d =
     let code = firstFailed (dataChecks (d .locked) dir count t) in
     ifPassed code (decision (withCode 0x0000 d) (good 0 0) (transferEffect t sector)) (decision (withCode code d) (refusedWith code) nothing)
@@ -149,11 +150,11 @@ decideData dir count t sector d =
 abbrev pub sectorChecks : Device → ℕ → ℕ → List Check
 sectorChecks d count lba = (not (d .locked), 0x04) ∷ (eqb count 1, 0x04) ∷ (ltb lba (d .visible), 0x10) ∷ []
 
-abbrev pub sectorEffect : Direction → ℕ → List ℕ → Effect
+abbrev pub sectorEffect : Direction → ℕ → Mailbox → Effect
 sectorEffect read lba sector = sending (diskSector lba)
 sectorEffect write lba sector = writing (oneSector lba sector)
 
-unfoldable pub decideSector : Direction → ℕ → ℕ → List ℕ → Device → Decision
+unfoldable pub decideSector : Direction → ℕ → ℕ → Mailbox → Device → Decision
 decideSector dir count lba sector d =
     let error = firstFailed (sectorChecks d count lba) in
     ifPassed error (decision d (good 0 0) (sectorEffect dir lba sector)) (decision d (refused error) nothing)
@@ -166,7 +167,7 @@ pendingFor p d = getD (d .command .pending) p none
 -- "Every request but a well-formed status read first stops a running fill (code 0008h) and drops an owed transfer;
 -- an E1h request judges that owed transfer as it was before."
 -- "All else ..: Error 04h, stored code unchanged unless a fill was stopped."
-abbrev pub decideRequest : Request → Serving → List ℕ → Device → Decision
+abbrev pub decideRequest : Request → Serving → Mailbox → Device → Decision
 decideRequest statusRead s m d = decideStatus d
 decideRequest keySector s m d = decideKey (s .port) (dataOf m) (interrupt d)
 decideRequest (dataTransfer dir count) s m d = decideData dir count (pendingFor (s .port) d) (dataOf m) (interrupt d)
@@ -174,5 +175,5 @@ decideRequest (sectorAccess dir count lba) s m d = decideSector dir count lba (d
 decideRequest other s m d = decision (interrupt d) (refused 0x04) nothing
 
 -- the request m, served with s
-unfoldable pub decide : Serving → List ℕ → Device → Decision
+unfoldable pub decide : Serving → Mailbox → Device → Decision
 decide s m d = decideRequest (requestOf m) s m d

@@ -5,17 +5,18 @@ use lib.ListN.{drop}
 use lib.Seq.{sets}
 use Rattle.wire.specs.Parts.{part}
 use Rattle.model.specs.Sizes.{sectorSize}
+use Rattle.model.specs.Buffers.{Sector}
 
 -- the bytes of all sectors, in their order
 pub record Disk : Type 0 where
   pub sectors : List ℕ
 
 -- the content of one sector
-abbrev pub sectorAt : ℕ → Disk → List ℕ
+abbrev pub sectorAt : ℕ → Disk → Sector
 sectorAt lba disk = part (disk .sectors) (sectorSize * lba) sectorSize
 
 -- the disk with another content of one sector
-abbrev pub withSector : ℕ → List ℕ → Disk → Disk
+abbrev pub withSector : ℕ → Sector → Disk → Disk
 withSector lba sector disk = record { sectors = sets (disk .sectors) (sectorSize * lba) sector }
 
 -- the sectors outside the visible disk: from V on

@@ -11,9 +11,10 @@ use Rattle.model.specs.Fill.{workCount}
 use Rattle.model.specs.Decide.{decide}
 use Rattle.model.specs.Owner.{sample}
 use Rattle.model.specs.Image.{powerOn, blank}
+use Rattle.model.specs.Buffers.{Mailbox}
 
 -- a key sector with these words; B0h, D6h, E0h, count 1 before it
-abbrev pub keyMailbox : List Field → List ℕ
+abbrev pub keyMailbox : List Field → Mailbox
 keyMailbox fields =
     form registersSize ((0, 1, 0xD6) ∷ (2, 1, 1) ∷ (4, 1, 0xE0) ∷ (6, 1, 0x4F) ∷ (8, 1, 0xC2) ∷ (11, 1, 0xB0) ∷ [])
     ++ form sectorSize fields

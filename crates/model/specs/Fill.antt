@@ -10,6 +10,7 @@ use Rattle.model.specs.Sizes.{portCount}
 use Rattle.model.specs.Device.{Fill, idle, running, Transfer, none, Device}
 use Rattle.model.specs.Disk.{Disk, withSector}
 use Rattle.model.specs.Update.{withFill, withPending, withInitialized}
+use Rattle.model.specs.Buffers.{Sector}
 
 -- "A running fill stores FFFFh; its last sector stores 0000h."
 abbrev pub runningCode : ℕ
@@ -42,7 +43,7 @@ pub record Volume : Type 0 where
   pub disk : Disk
 
 -- An ordinary write. "The Segment Initialized flag is cleared by any sector written"
-unfoldable pub writeSector : ℕ → List ℕ → Volume → Volume
+unfoldable pub writeSector : ℕ → Sector → Volume → Volume
 writeSector lba sector v = record { device = withInitialized false (v .device); disk = withSector lba sector (v .disk) }
 
 -- ".. and set when a fill from 0 to the last user LBA ends."
@@ -57,13 +58,13 @@ advanced first next end d =
     else withFill (running first next end) runningCode d
 
 -- one sector of the fill
-abbrev pub fillStep : Fill → List ℕ → Volume → Volume
+abbrev pub fillStep : Fill → Sector → Volume → Volume
 fillStep idle sector v = v
 fillStep (running first next end) sector v =
     let w = writeSector next sector v in
     record { device = advanced first (suc next) end (w .device); disk = w .disk }
 
-unfoldable pub sectorStep : List ℕ → Volume → Volume
+unfoldable pub sectorStep : Sector → Volume → Volume
 sectorStep sector v = fillStep (v .device .command .fill) sector v
 
 abbrev pub iterate : {A : Type 0} → ℕ → (A → A) → A → A
@@ -79,5 +80,5 @@ unfoldable pub workCount : ℕ → Fill → ℕ
 workCount n f = min n (remaining f)
 
 -- "writes the next sectors of a running fill, as many as n and what is left allow"
-unfoldable pub work : ℕ → List ℕ → Volume → Volume
+unfoldable pub work : ℕ → Sector → Volume → Volume
 work n sector v = iterate (workCount n (v .device .command .fill)) (sectorStep sector) v

@@ -15,6 +15,7 @@ use Rattle.model.specs.Device.{idle, Feature, Settings, Thermal, Device}
 use Rattle.model.specs.Key.{statesNamed}
 use Rattle.model.specs.Temperature.{emptyHistory, emptyIndex, tableIndexPlace, tableHeadSize, tableBytes}
 use Rattle.model.specs.Fill.{nothingPending}
+use Rattle.model.specs.Buffers.{Image}
 
 -- ---- an entry
 
@@ -162,10 +163,10 @@ trailerFields k = (0, 4, bodySize) ∷ (linkPlace, 4, previousPlace k) ∷ (numb
 unfoldable pub trailerBytes : ℕ → List ℕ
 trailerBytes k = form tagPlace (trailerFields k) ++ tag
 
-abbrev pub bodyAt : List ℕ → ℕ → List ℕ
+abbrev pub bodyAt : Image → ℕ → List ℕ
 bodyAt image k = part image (trailerPlace k - bodySize) bodySize
 
-abbrev pub trailerAt : List ℕ → ℕ → List ℕ
+abbrev pub trailerAt : Image → ℕ → List ℕ
 trailerAt image k = part image (trailerPlace k) trailerSize
 
 -- "all entries have the same N": whether an entry is like the newest. W-204 adds the form here.
@@ -173,7 +174,7 @@ unfoldable pub alike : Saved → Saved → Bool
 alike latest s = eqb (s .native) (latest .native)
 
 -- entry k holds: its body, like the newest, and its trailer
-unfoldable pub entryHolds : Saved → List ℕ → ℕ → Bool
+unfoldable pub entryHolds : Saved → Image → ℕ → Bool
 entryHolds latest image k =
     bodyHolds (bodyAt image k) && alike latest (savedIn (bodyAt image k)) && same (trailerAt image k) (trailerBytes k)
 
@@ -188,11 +189,11 @@ abbrev pub entries : ℕ → ℕ
 entries used = used / entrySize
 
 -- "the newest entry"
-abbrev pub newest : List ℕ → ℕ → Saved
+abbrev pub newest : Image → ℕ → Saved
 newest image used = savedIn (bodyAt image (entries used))
 
 -- "The used length is a multiple of 560, at most 65,520; all entries have the same N. .. every entry must hold"
-unfoldable pub readable : List ℕ → ℕ → Bool
+unfoldable pub readable : Image → ℕ → Bool
 readable image used =
     eqb (used % entrySize) 0
     && leb used (entrySize * entryLimit)
@@ -200,32 +201,32 @@ readable image used =
 
 -- "Reading starts at the last trailer and follows the chain back": n entries, the last trailer at a place. It says the same as
 -- "every entry" above (proofs/ImageLaws.antt, chain-every).
-unfoldable pub chainHolds : Saved → List ℕ → ℕ → ℕ → Bool
+unfoldable pub chainHolds : Saved → Image → ℕ → ℕ → Bool
 chainHolds latest image zero at = eqb at noTrailer
 chainHolds latest image (suc k) at =
     eqb at (trailerPlace (suc k)) && entryHolds latest image (suc k) && chainHolds latest image k (get 4 image (at + linkPlace))
 
 -- whether the image is empty or its newest entry is this disk's
-abbrev pub sameDisk : ℕ → List ℕ → ℕ → Bool
+abbrev pub sameDisk : ℕ → Image → ℕ → Bool
 sameDisk native image used = eqb used 0 || eqb (newest image used .native) native
 
 -- "an image's used length exceeds its buffer" (2); "image not readable by the rules below" (6); "newest entry's N is not this disk's" (7):
 -- what a save and a power-on ask of an image
-abbrev pub imageChecks : ℕ → List ℕ → ℕ → List Check
+abbrev pub imageChecks : ℕ → Image → ℕ → List Check
 imageChecks native image used =
     (leb used (length image), badLength) ∷ (readable image used, badImage) ∷ (sameDisk native image used, otherDisk) ∷ []
 
 -- ---- save
 
 -- "on a save only: image has 117 entries, or its buffer lacks 560 more bytes"
-abbrev pub hasRoom : List ℕ → ℕ → Bool
+abbrev pub hasRoom : Image → ℕ → Bool
 hasRoom image used = ltb (entries used) entryLimit && leb (used + entrySize) (length image)
 
-abbrev pub saveChecks : ℕ → List ℕ → ℕ → List Check
+abbrev pub saveChecks : ℕ → Image → ℕ → List Check
 saveChecks native image used = imageChecks native image used ++ ((hasRoom image used, imageFull) ∷ [])
 
 -- "A save adds one entry behind the used length; other bytes stay."
-unfoldable pub savedImage : Device → List ℕ → ℕ → List ℕ
+unfoldable pub savedImage : Device → Image → ℕ → Image
 savedImage d image used = sets image used (bodyBytes (savedFrom d) ++ trailerBytes (suc (entries used)))
 
 -- ---- power-on
@@ -301,5 +302,5 @@ powerOn s =
     }
 
 -- ".. from length 0 ..; otherwise the newest entry"
-unfoldable pub restored : ℕ → List ℕ → ℕ → Saved
+unfoldable pub restored : ℕ → Image → ℕ → Saved
 restored native image used = if eqb used 0 then blank native else newest image used

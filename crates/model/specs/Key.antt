@@ -8,16 +8,17 @@ use Rattle.wire.specs.Numbers.{get}
 use Rattle.wire.specs.Parts.{part, repeated}
 use Rattle.model.specs.Device.{Device}
 use Rattle.model.specs.Registers.{Direction, read, write}
+use Rattle.model.specs.Buffers.{Sector}
 
 -- word i of a key sector: "Words 0 and 1 are action and function"
-abbrev pub word : List ℕ → ℕ → ℕ
+abbrev pub word : Sector → ℕ → ℕ
 word k i = get 2 k (2 * i)
 
 -- "Start bytes 4-11, Count 12-19"
-abbrev pub start : List ℕ → ℕ
+abbrev pub start : Sector → ℕ
 start k = get 8 k 4
 
-abbrev pub count : List ℕ → ℕ
+abbrev pub count : Sector → ℕ
 count k = get 8 k 12
 
 -- "Last user LBA is V-1."
@@ -28,7 +29,7 @@ lastLba visible = visible - 1
 
 -- Action 2: "1 pattern, 2 sector; else 0001h"; "Start above last user LBA, or Start + Count above last user LBA: 0002h"
 -- "Start + Count is a whole-number sum; it never wraps."
-abbrev pub fillChecks : ℕ → List ℕ → List Check
+abbrev pub fillChecks : ℕ → Sector → List Check
 fillChecks visible k =
     (between 1 (word k 1) 2, 0x0001)
     ∷ (leb (start k) (lastLba visible), 0x0002)
@@ -37,7 +38,7 @@ fillChecks visible k =
 
 -- Action 3: "1 set, 2 return; else 0004h"; "word 2 is 1 read or 2 write, else 0005h";
 -- "set: word 3 in 100 ms, 1 to 9 gives 0006h (read) or 0007h (write); 0 is off"
-abbrev pub timerChecks : List ℕ → List Check
+abbrev pub timerChecks : Sector → List Check
 timerChecks k =
     (between 1 (word k 1) 2, 0x0004)
     ∷ (between 1 (word k 2) 2, 0x0005)
@@ -55,7 +56,7 @@ statesNamed cache reordering interval =
 
 -- Action 4: "1 set, 2 state, 3 options; else 000Ch"; "word 2 is 1 to 3, else 000Dh";
 -- "set only: word 3 invalid 000Eh, then word 4 other than 0 or 1 000Fh"
-abbrev pub featureChecks : List ℕ → List Check
+abbrev pub featureChecks : Sector → List Check
 featureChecks k =
     (between 1 (word k 1) 3, 0x000C)
     ∷ (between 1 (word k 2) 3, 0x000D)
@@ -64,11 +65,11 @@ featureChecks k =
     ∷ []
 
 -- Action 5: "1; else 0001h"; "word 2 is 2, else 0011h"
-abbrev pub tableChecks : List ℕ → List Check
+abbrev pub tableChecks : Sector → List Check
 tableChecks k = (eqb (word k 1) 1, 0x0001) ∷ (eqb (word k 2) 2, 0x0011) ∷ []
 
 -- the further checks of an action
-abbrev pub actionChecks : ℕ → List ℕ → List Check
+abbrev pub actionChecks : ℕ → Sector → List Check
 actionChecks visible k =
     if eqb (word k 0) 2 then fillChecks visible k
     else if eqb (word k 0) 3 then timerChecks k
@@ -76,7 +77,7 @@ actionChecks visible k =
     else tableChecks k
 
 -- The lock comes first, with 0012h; then an action that is "not 2 to 5", with 0010h.
-unfoldable pub keyChecks : Device → List ℕ → List Check
+unfoldable pub keyChecks : Device → Sector → List Check
 keyChecks d k = (not (d .locked), 0x0012) ∷ (between 2 (word k 0) 5, 0x0010) ∷ actionChecks (d .visible) k
 
 -- ---- what an accepted key asks
@@ -88,7 +89,7 @@ pub data FeatureName : Type 0 where
 
 -- A fill's numbers are its first sector and its end; with a pattern comes the sector to write.
 pub data Action : Type 0 where
-  fillPattern : ℕ → ℕ → List ℕ → Action
+  fillPattern : ℕ → ℕ → Sector → Action
   fillSector : ℕ → ℕ → Action
   setTimer : Direction → ℕ → Action
   returnTimer : Direction → Action
@@ -98,11 +99,11 @@ pub data Action : Type 0 where
   sendTable : Action
 
 -- "bytes 20-23 repeated 128 times"
-abbrev pub patternSector : List ℕ → List ℕ
+abbrev pub patternSector : Sector → Sector
 patternSector k = repeated 128 (part k 20 4)
 
 -- "Count 0 means up to the last user LBA."
-abbrev pub fillEnd : ℕ → List ℕ → ℕ
+abbrev pub fillEnd : ℕ → Sector → ℕ
 fillEnd visible k = if eqb (count k) 0 then visible else start k + count k
 
 abbrev pub timerName : ℕ → Direction
@@ -111,21 +112,21 @@ timerName n = if eqb n 1 then read else write
 abbrev pub featureName : ℕ → FeatureName
 featureName n = if eqb n 1 then writeCache else if eqb n 2 then reordering else logInterval
 
-abbrev pub fillAction : ℕ → List ℕ → Action
+abbrev pub fillAction : ℕ → Sector → Action
 fillAction visible k =
     if eqb (word k 1) 1 then fillPattern (start k) (fillEnd visible k) (patternSector k)
     else fillSector (start k) (fillEnd visible k)
 
-abbrev pub timerAction : List ℕ → Action
+abbrev pub timerAction : Sector → Action
 timerAction k = if eqb (word k 1) 1 then setTimer (timerName (word k 2)) (word k 3) else returnTimer (timerName (word k 2))
 
-abbrev pub featureAction : List ℕ → Action
+abbrev pub featureAction : Sector → Action
 featureAction k =
     if eqb (word k 1) 1 then setFeature (featureName (word k 2)) (word k 3) (eqb (word k 4) 1)
     else if eqb (word k 1) 2 then returnState (featureName (word k 2))
     else returnOption (featureName (word k 2))
 
-unfoldable pub actionOf : ℕ → List ℕ → Action
+unfoldable pub actionOf : ℕ → Sector → Action
 actionOf visible k =
     if eqb (word k 0) 2 then fillAction visible k
     else if eqb (word k 0) 3 then timerAction k
@@ -143,5 +144,5 @@ verdict zero a = accepted a
 verdict (suc n) a = rejected (suc n)
 
 -- the first row that fails decides
-unfoldable pub judgeKey : Device → List ℕ → Verdict
+unfoldable pub judgeKey : Device → Sector → Verdict
 judgeKey d k = verdict (firstFailed (keyChecks d k)) (actionOf (d .visible) k)

@@ -1,5 +1,6 @@
 -- The model machine of document 01, in reading order.
 pub mod Sizes
+pub mod Buffers
 pub mod Device
 pub mod Disk
 pub mod Update

@@ -8,6 +8,7 @@ use Rattle.model.specs.Status.{statusSector}
 use Rattle.model.specs.Temperature.{tableBytes}
 use Rattle.model.specs.Fill.{Volume, startFill, writeSector}
 use Rattle.model.specs.Decide.{Writing, noWrite, oneSector, newFill, Sending, noData, status, temperatures, diskSector, Decision}
+use Rattle.model.specs.Buffers.{Mailbox, Sector}
 
 -- ---- what is written
 
@@ -22,7 +23,7 @@ abbrev pub volumeAfter : Decision → Disk → Volume
 volumeAfter c disk = written (c .effect .writes) (record { device = c .device; disk = disk })
 
 -- the sector of the fill, where one begins; otherwise the one that there was
-abbrev pub fillSectorAfter : Writing → List ℕ → List ℕ
+abbrev pub fillSectorAfter : Writing → Sector → Sector
 fillSectorAfter noWrite old = old
 fillSectorAfter (oneSector lba sector) old = old
 fillSectorAfter (newFill first end sector) old = sector
@@ -41,26 +42,26 @@ spanOf (newFill first end sector) = record { first = first; end = end }
 -- ---- what is sent
 
 -- "A table is sent as it stands at the E1h read."
-abbrev pub temperatureTable : Device → List ℕ
+abbrev pub temperatureTable : Device → Sector
 temperatureTable d = tableBytes (d .settings .logInterval .state) (d .thermal .index) (d .thermal .history)
 
 -- the content of the sector that is read; [] where none is
-abbrev pub contentRead : Sending → Disk → List ℕ
+abbrev pub contentRead : Sending → Disk → Sector
 contentRead noData disk = []
 contentRead status disk = []
 contentRead temperatures disk = []
 contentRead (diskSector lba) disk = sectorAt lba disk
 
 -- the data of a reply, of the device and of the content read
-abbrev pub sent : Sending → Device → List ℕ → List ℕ
+abbrev pub sent : Sending → Device → Sector → Sector
 sent noData d content = []
 sent status d content = statusSector d
 sent temperatures d content = temperatureTable d
 sent (diskSector lba) d content = content
 
 -- The reply, of registers, effect and the content of the one sector that is read: no rule sees more of the disk.
-abbrev pub replyWith : Registers → Sending → Device → List ℕ → List ℕ
+abbrev pub replyWith : Registers → Sending → Device → Sector → Mailbox
 replyWith r x d content = replyBytes r (sent x d content)
 
-abbrev pub replyOf : Decision → Volume → List ℕ
+abbrev pub replyOf : Decision → Volume → Mailbox
 replyOf c v = let x = c .effect .sends in replyWith (c .registers) x (v .device) (contentRead x (v .disk))

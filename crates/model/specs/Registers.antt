@@ -9,6 +9,7 @@ use Rattle.wire.specs.Numbers.{get}
 use Rattle.wire.specs.Parts.{part, padded}
 use Rattle.wire.specs.Layout.{Field, form}
 use Rattle.model.specs.Sizes.{sectorSize, registersSize, mailboxSize}
+use Rattle.model.specs.Buffers.{Mailbox, Sector}
 
 pub data Direction : Type 0 where
   read : Direction
@@ -23,36 +24,36 @@ pub data Request : Type 0 where
   other : Request
 
 -- "Bytes: 0/1 Features current/previous, 2/3 Sector Count, 4/5 LBA Low, 6/7 LBA Mid, 8/9 LBA High, 10 Device, 11 Command, .."
-abbrev pub features : List ℕ → ℕ
+abbrev pub features : Mailbox → ℕ
 features m = getD m 0 0
 
-abbrev pub count8 : List ℕ → ℕ
+abbrev pub count8 : Mailbox → ℕ
 count8 m = getD m 2 0
 
-abbrev pub count16 : List ℕ → ℕ
+abbrev pub count16 : Mailbox → ℕ
 count16 m = get 2 m 2
 
-abbrev pub lbaLow : List ℕ → ℕ
+abbrev pub lbaLow : Mailbox → ℕ
 lbaLow m = getD m 4 0
 
-abbrev pub lbaMid : List ℕ → ℕ
+abbrev pub lbaMid : Mailbox → ℕ
 lbaMid m = getD m 6 0
 
-abbrev pub lbaMid16 : List ℕ → ℕ
+abbrev pub lbaMid16 : Mailbox → ℕ
 lbaMid16 m = get 2 m 6
 
-abbrev pub lbaHigh : List ℕ → ℕ
+abbrev pub lbaHigh : Mailbox → ℕ
 lbaHigh m = getD m 8 0
 
-abbrev pub commandByte : List ℕ → ℕ
+abbrev pub commandByte : Mailbox → ℕ
 commandByte m = getD m 11 0
 
 -- "the 48-bit LBA, previous bytes giving bits 24 to 47 (document 004)"
-unfoldable pub lba48 : List ℕ → ℕ
+unfoldable pub lba48 : Mailbox → ℕ
 lba48 m = get 6 (getD m 4 0 ∷ getD m 6 0 ∷ getD m 8 0 ∷ getD m 5 0 ∷ getD m 7 0 ∷ getD m 9 0 ∷ []) 0
 
 -- the sector behind the registers
-abbrev pub dataOf : List ℕ → List ℕ
+abbrev pub dataOf : Mailbox → Sector
 dataOf m = part m registersSize sectorSize
 
 -- "Write E0h: key sector. Read E0h: status. E1h: data."
@@ -68,7 +69,7 @@ logPage d page count =
     else other
 
 -- "B0h, Features D5h (read log) or D6h (write log), LBA Mid 4Fh, High C2h"
-unfoldable pub smartLog : List ℕ → Request
+unfoldable pub smartLog : Mailbox → Request
 smartLog m =
     if eqb (lbaMid m) 0x4F && eqb (lbaHigh m) 0xC2
     then (
@@ -79,12 +80,12 @@ smartLog m =
     else other
 
 -- "or 2Fh (read) or 3Fh (write) with both LBA Mid bytes 0"; "Sector Count .. (16 bits for 2Fh and 3Fh)"
-unfoldable pub logExt : Direction → List ℕ → Request
+unfoldable pub logExt : Direction → Mailbox → Request
 logExt d m = if eqb (lbaMid16 m) 0 then logPage d (lbaLow m) (count16 m) else other
 
 -- "24h and 34h: read or write one sector at the 48-bit LBA"
 -- "Input bytes 10 and 12 to 15 are ignored; for B0h so are the previous bytes, and so is every register that a rule below doesn't name."
-unfoldable pub requestOf : List ℕ → Request
+unfoldable pub requestOf : Mailbox → Request
 requestOf m =
     if eqb (commandByte m) 0xB0 then smartLog m
     else if eqb (commandByte m) 0x2F then logExt read m
@@ -123,5 +124,5 @@ unfoldable pub registersBytes : Registers → List ℕ
 registersBytes r = form registersSize (registersFields r)
 
 -- ".. and the sector is zeros unless data is returned."
-unfoldable pub replyBytes : Registers → List ℕ → List ℕ
+unfoldable pub replyBytes : Registers → List ℕ → Mailbox
 replyBytes r sector = padded mailboxSize (registersBytes r ++ sector)

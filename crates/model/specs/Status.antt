@@ -6,6 +6,7 @@ use Rattle.wire.specs.Choice.{bit}
 use Rattle.wire.specs.Layout.{Field, form}
 use Rattle.model.specs.Sizes.{sectorSize}
 use Rattle.model.specs.Device.{Fill, idle, running, Command, Thermal, Device, nextSector}
+use Rattle.model.specs.Buffers.{Sector}
 
 -- "state at 10 (0, or 5 with a fill)"
 abbrev pub driveState : Fill → ℕ
@@ -29,5 +30,5 @@ abbrev pub statusFields : Device → List Field
 statusFields d = statusHead (d .initialized) (d .command .fill) ++ (statusCommand (d .command) ++ statusTemperatures (d .thermal))
 
 -- "All else 0."
-unfoldable pub statusSector : Device → List ℕ
+unfoldable pub statusSector : Device → Sector
 statusSector d = form sectorSize (statusFields d)

@@ -17,6 +17,7 @@ use Rattle.model.specs.Owner.{setVisible as setVisibleDevice}
 use Rattle.model.specs.Image.{saveChecks, savedImage, powerOnChecks, restored}
 use Rattle.model.specs.Image.{powerOn as powerOnDevice}
 use Rattle.model.specs.Machine.{Port, empty, request, reply, Machine, machine, withPort, heldBytes}
+use Rattle.model.specs.Buffers.{Image, Mailbox}
 
 -- the owner steps that change the device alone
 pub data OwnerStep : Type 0 where
@@ -27,21 +28,21 @@ pub data OwnerStep : Type 0 where
 
 -- "fed only port, n, V, reading, mailbox and image with its used length"
 pub data Step : Type 0 where
-  take : ℕ → List ℕ → Step
+  take : ℕ → Mailbox → Step
   serve : Serving → Step
-  give : ℕ → List ℕ → Step
+  give : ℕ → Mailbox → Step
   work : ℕ → Step
   owner : OwnerStep → Step
-  save : List ℕ → ℕ → Step
-  powerOn : List ℕ → ℕ → Step
+  save : Image → ℕ → Step
+  powerOn : Image → ℕ → Step
 
 -- What the firmware sees of a step: the answer number, the count of sectors written, the mailbox, the image and its used
 -- length afterwards. A step that is given no mailbox or image has [] and 0 there.
 pub record Seen : Type 0 where
   pub answer : ℕ
   pub count : ℕ
-  pub mailbox : List ℕ
-  pub image : List ℕ
+  pub mailbox : Mailbox
+  pub image : Image
   pub used : ℕ
 
 pub record Outcome (S : Type 0) : Type 0 where
@@ -87,10 +88,10 @@ checks (powerOn image used) M = powerOnChecks (M .disk .sectors) image used
 abbrev pub answerOnly : ℕ → Seen
 answerOnly n = record { answer = n; count = 0; mailbox = []; image = []; used = 0 }
 
-abbrev pub answeredMailbox : ℕ → List ℕ → Seen
+abbrev pub answeredMailbox : ℕ → Mailbox → Seen
 answeredMailbox n m = record { answer = n; count = 0; mailbox = m; image = []; used = 0 }
 
-abbrev pub answeredImage : ℕ → List ℕ → ℕ → Seen
+abbrev pub answeredImage : ℕ → Image → ℕ → Seen
 answeredImage n image used = record { answer = n; count = 0; mailbox = []; image = image; used = used }
 
 -- an answer that leaves the buffers as they were given
@@ -139,7 +140,7 @@ ownerRule (setVisible v) d = setVisibleDevice v d
 ownerRule (sample reading) d = sampleDevice reading d
 
 -- "slots empty": the machine after a power-on with this disk and image
-unfoldable pub poweredOn : Disk → List ℕ → ℕ → Machine
+unfoldable pub poweredOn : Disk → Image → ℕ → Machine
 poweredOn disk image used = machine (powerOnDevice (restored (length (disk .sectors) / sectorSize) image used)) [] (λ i. empty) disk
 
 -- "Take copies all 528 bytes before anything is judged. Bytes torn by a core during the copy are simply the request."
@@ -170,5 +171,5 @@ trace f [] s = []
 trace f (x ∷ xs) s = f x s ∷ trace f xs (f x s .state)
 
 -- a first power-on: "Start with a power-on that answers 0", on any disk and image
-unfoldable pub firstAnswer : Disk → List ℕ → ℕ → ℕ
+unfoldable pub firstAnswer : Disk → Image → ℕ → ℕ
 firstAnswer disk image used = firstFailed (powerOnChecks (disk .sectors) image used)

@@ -1,6 +1,17 @@
 -- Sizes and places of the two areas that hold the machine: the device record and the private area.
 use Prim.Native.Nat.{ℕ, _+_, _*_}
+use mathlib.Core.List.{List}
 use Rattle.model.specs.Sizes.{sectorSize, portCount, mailboxSize}
+
+-- the bytes of the device record, of the private area and of the disk
+abbrev pub Record : Type 0
+Record = List ℕ
+
+abbrev pub Area : Type 0
+Area = List ℕ
+
+abbrev pub Sectors : Type 0
+Sectors = List ℕ
 
 -- "The device record crosses as 1,024 bytes in a layout that the team fixes in docs/." (docs/record-layout.md)
 abbrev pub recordSize : ℕ

@@ -10,6 +10,8 @@ use Rattle.model.specs.Valid.{Fed, Each}
 use Rattle.store.specs.Store.{Store, machineOf}
 use Rattle.store.specs.Entries.{powerOnBytes}
 use Rattle.store.specs.OnStore.{store, onStore}
+use Rattle.model.specs.Buffers.{Image}
+use Rattle.store.specs.Areas.{Record, Area}
 
 -- what is left and seen of a step on the bytes, read as a machine
 abbrev pub asMachine : Outcome Store → Outcome Machine
@@ -26,13 +28,13 @@ HiddenKept [] s = Unit {0}
 HiddenKept (x ∷ xs) s = keptHidden s (onStore x s .state) × HiddenKept xs (onStore x s .state)
 
 -- the bytes after a first power-on, whatever record and private area held
-abbrev pub started : List ℕ → List ℕ → Disk → List ℕ → ℕ → Store
+abbrev pub started : Record → Area → Disk → Image → ℕ → Store
 started r a disk image used =
     let o = powerOnBytes r a (disk .sectors) image used in
     store (o .recordArea) (o .privateArea) disk
 
 -- "The model machine of our first paper makes the same power-on, from the same image and disk, and runs the same list."
-pub record FollowsMachine (r a : List ℕ) (disk : Disk) (image : List ℕ) (used : ℕ) (xs : List Step) : Type 0 where
+pub record FollowsMachine (r : Record) (a : Area) (disk : Disk) (image : Image) (used : ℕ) (xs : List Step) : Type 0 where
   pub sameAnswer : firstAnswer disk image used ≡ 0
   -- "After the power-on and after each step our device and every byte of the disk equal the model machine's. Every answer number,
   -- every count of sectors written, every reply delivered and every saved image is the same too."
@@ -45,5 +47,5 @@ pub record FollowsMachine (r a : List ℕ) (disk : Disk) (image : List ℕ) (use
 -- bytes are bytes.
 abbrev pub Condition3 : Type 0
 Condition3 =
-    (r a : List ℕ) (disk : Disk) (image : List ℕ) (used : ℕ) → powerOnBytes r a (disk .sectors) image used .answer ≡ 0 → Bytes (disk .sectors) → Bytes image
+    (r : Record) (a : Area) (disk : Disk) (image : Image) (used : ℕ) → powerOnBytes r a (disk .sectors) image used .answer ≡ 0 → Bytes (disk .sectors) → Bytes image
     → (xs : List Step) → Each Fed xs → FollowsMachine r a disk image used xs

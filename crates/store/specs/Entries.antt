@@ -20,11 +20,13 @@ use Rattle.store.specs.Areas.{recordSize, slotPlace, fillPlace, privateS
 use Rattle.store.specs.Record.{Stage, empty, held, answered, isStage, Contents, encode, decode}
 use Rattle.store.specs.Sound.{sound}
 use Rattle.store.specs.Store.{slotBytes, fillSectorOf, stageFor}
+use Rattle.model.specs.Buffers.{Image, Mailbox}
+use Rattle.store.specs.Areas.{Area, Record, Sectors}
 
 -- ---- checks that entries share
 
 -- 4, "device record unsound", which a record of another size is too
-abbrev pub soundRecord : List ℕ → Check
+abbrev pub soundRecord : Record → Check
 soundRecord r = (sound r, badRecord)
 
 -- "a lent buffer isn't of its size"
@@ -32,18 +34,18 @@ abbrev pub ofSize : ℕ → List ℕ → Check
 ofSize n buffer = (eqb (length buffer) n, badLength)
 
 -- "the disk isn't N sectors"
-abbrev pub diskSized : List ℕ → List ℕ → Check
+abbrev pub diskSized : Record → Sectors → Check
 diskSized r disk = ofSize (sectorSize * decode r .device .native) disk
 
 abbrev pub goodPort : ℕ → Check
 goodPort p = (ltb p portCount, badPort)
 
 -- "slot not in the stage the step needs"
-abbrev pub inStage : Stage → List ℕ → ℕ → Check
+abbrev pub inStage : Stage → Record → ℕ → Check
 inStage needed r p = (isStage needed (stageFor p (decode r)), badStage)
 
 -- take and give, with the stage that they need
-abbrev pub mailboxChecks : Stage → List ℕ → ℕ → List ℕ → List ℕ → List Check
+abbrev pub mailboxChecks : Stage → Record → ℕ → Mailbox → Area → List Check
 mailboxChecks needed r p m a =
     soundRecord r ∷ ofSize mailboxSize m ∷ ofSize privateSize a ∷ goodPort p ∷ inStage needed r p ∷ []
 
@@ -58,18 +60,18 @@ withDevice d c = record { device = d; stages = c .stages }
 
 pub record TakeAfter : Type 0 where
   pub answer : ℕ
-  pub recordArea : List ℕ
-  pub privateArea : List ℕ
+  pub recordArea : Record
+  pub privateArea : Area
 
-abbrev pub takeChecks : List ℕ → ℕ → List ℕ → List ℕ → List Check
+abbrev pub takeChecks : Record → ℕ → Mailbox → Area → List Check
 takeChecks r p m a = mailboxChecks empty r p m a
 
 -- "copies the mailbox into the port's slot. Slot goes from empty to held."
-abbrev pub takeDone : List ℕ → ℕ → List ℕ → List ℕ → TakeAfter
+abbrev pub takeDone : Record → ℕ → Mailbox → Area → TakeAfter
 takeDone r p m a =
     record { answer = done; recordArea = encode (withStage p held (decode r)); privateArea = sets a (slotPlace p) m }
 
-unfoldable pub takeBytes : List ℕ → ℕ → List ℕ → List ℕ → TakeAfter
+unfoldable pub takeBytes : Record → ℕ → Mailbox → Area → TakeAfter
 takeBytes r p m a =
     let n = firstFailed (takeChecks r p m a) in
     ifPassed n (takeDone r p m a) (record { answer = n; recordArea = r; privateArea = a })
@@ -78,21 +80,21 @@ takeBytes r p m a =
 
 pub record ServeAfter : Type 0 where
   pub answer : ℕ
-  pub recordArea : List ℕ
-  pub privateArea : List ℕ
-  pub disk : List ℕ
+  pub recordArea : Record
+  pub privateArea : Area
+  pub disk : Sectors
 
-abbrev pub serveChecks : List ℕ → ℕ → List ℕ → List ℕ → List Check
+abbrev pub serveChecks : Record → ℕ → Area → Sectors → List Check
 serveChecks r p a disk = soundRecord r ∷ ofSize privateSize a ∷ diskSized r disk ∷ goodPort p ∷ inStage held r p ∷ []
 
 -- a fill that begins has its sector in the private area
-abbrev pub withFillSector : Writing → List ℕ → List ℕ
+abbrev pub withFillSector : Writing → Area → Area
 withFillSector noWrite a = a
 withFillSector (oneSector lba sector) a = a
 withFillSector (newFill first end sector) a = sets a fillPlace sector
 
 -- "answers the held request from the slot alone and leaves the reply in the slot. Held to answered."
-abbrev pub performed : ℕ → Decision → Contents → List ℕ → List ℕ → ServeAfter
+abbrev pub performed : ℕ → Decision → Contents → Area → Sectors → ServeAfter
 performed p k c a disk =
     let v = volumeAfter k (record { sectors = disk }) in
     record {
@@ -102,10 +104,10 @@ performed p k c a disk =
       disk = v .disk .sectors;
     }
 
-abbrev pub serveDone : List ℕ → ℕ → List ℕ → List ℕ → ServeAfter
+abbrev pub serveDone : Record → ℕ → Area → Sectors → ServeAfter
 serveDone r p a disk = let c = decode r in performed p (decide (record { port = p }) (slotBytes p a) (c .device)) c a disk
 
-unfoldable pub serveBytes : List ℕ → ℕ → List ℕ → List ℕ → ServeAfter
+unfoldable pub serveBytes : Record → ℕ → Area → Sectors → ServeAfter
 serveBytes r p a disk =
     let n = firstFailed (serveChecks r p a disk) in
     ifPassed n (serveDone r p a disk) (record { answer = n; recordArea = r; privateArea = a; disk = disk })
@@ -114,17 +116,17 @@ serveBytes r p a disk =
 
 pub record GiveAfter : Type 0 where
   pub answer : ℕ
-  pub recordArea : List ℕ
-  pub mailbox : List ℕ
+  pub recordArea : Record
+  pub mailbox : Mailbox
 
-abbrev pub giveChecks : List ℕ → ℕ → List ℕ → List ℕ → List Check
+abbrev pub giveChecks : Record → ℕ → Mailbox → Area → List Check
 giveChecks r p m a = mailboxChecks answered r p m a
 
 -- "writes all 528 reply bytes to the mailbox. Answered to empty; the slot's bytes stay."
-abbrev pub giveDone : List ℕ → ℕ → List ℕ → GiveAfter
+abbrev pub giveDone : Record → ℕ → Area → GiveAfter
 giveDone r p a = record { answer = done; recordArea = encode (withStage p empty (decode r)); mailbox = slotBytes p a }
 
-unfoldable pub giveBytes : List ℕ → ℕ → List ℕ → List ℕ → GiveAfter
+unfoldable pub giveBytes : Record → ℕ → Mailbox → Area → GiveAfter
 giveBytes r p m a =
     let n = firstFailed (giveChecks r p m a) in
     ifPassed n (giveDone r p a) (record { answer = n; recordArea = r; mailbox = m })
@@ -134,14 +136,14 @@ giveBytes r p m a =
 pub record WorkAfter : Type 0 where
   pub answer : ℕ
   pub count : ℕ
-  pub recordArea : List ℕ
-  pub disk : List ℕ
+  pub recordArea : Record
+  pub disk : Sectors
 
-abbrev pub workChecks : List ℕ → List ℕ → List ℕ → List Check
+abbrev pub workChecks : Record → Area → Sectors → List Check
 workChecks r a disk = soundRecord r ∷ ofSize privateSize a ∷ diskSized r disk ∷ []
 
 -- "writes the next sectors of a running fill, as many as n and what is left allow, and reports how many it wrote"
-abbrev pub workDone : List ℕ → List ℕ → List ℕ → ℕ → WorkAfter
+abbrev pub workDone : Record → Area → Sectors → ℕ → WorkAfter
 workDone r a disk n =
     let c = decode r in
     let v = work n (fillSectorOf a) (record { device = c .device; disk = record { sectors = disk } }) in
@@ -152,7 +154,7 @@ workDone r a disk n =
       disk = v .disk .sectors;
     }
 
-unfoldable pub workBytes : List ℕ → List ℕ → List ℕ → ℕ → WorkAfter
+unfoldable pub workBytes : Record → Area → Sectors → ℕ → WorkAfter
 workBytes r a disk n =
     let refusal = firstFailed (workChecks r a disk) in
     ifPassed refusal (workDone r a disk n) (record { answer = refusal; count = 0; recordArea = r; disk = disk })
@@ -161,36 +163,36 @@ workBytes r a disk n =
 
 pub record OwnerAfter : Type 0 where
   pub answer : ℕ
-  pub recordArea : List ℕ
+  pub recordArea : Record
 
 -- the device is changed by f
-abbrev pub ownerDone : (Device → Device) → List ℕ → OwnerAfter
+abbrev pub ownerDone : (Device → Device) → Record → OwnerAfter
 ownerDone f r = let c = decode r in record { answer = done; recordArea = encode (withDevice (f (c .device)) c) }
 
-abbrev pub ownerBytes : List Check → (Device → Device) → List ℕ → OwnerAfter
+abbrev pub ownerBytes : List Check → (Device → Device) → Record → OwnerAfter
 ownerBytes cs f r = let n = firstFailed cs in ifPassed n (ownerDone f r) (record { answer = n; recordArea = r })
 
 -- "V asked is 0 or above N"
-abbrev pub ownerChecks : OwnerStep → List ℕ → List Check
+abbrev pub ownerChecks : OwnerStep → Record → List Check
 ownerChecks x r = soundRecord r ∷ (goodValue x (decode r .device), badValue) ∷ []
 
 -- the owner's step x
-abbrev pub ownerEntry : OwnerStep → List ℕ → OwnerAfter
+abbrev pub ownerEntry : OwnerStep → Record → OwnerAfter
 ownerEntry x r = ownerBytes (ownerChecks x r) (ownerRule x) r
 
-unfoldable pub lockBytes : List ℕ → OwnerAfter
+unfoldable pub lockBytes : Record → OwnerAfter
 lockBytes r = ownerEntry lock r
 
-unfoldable pub unlockBytes : List ℕ → OwnerAfter
+unfoldable pub unlockBytes : Record → OwnerAfter
 unlockBytes r = ownerEntry unlock r
 
-abbrev pub visibleChecks : List ℕ → ℕ → List Check
+abbrev pub visibleChecks : Record → ℕ → List Check
 visibleChecks r v = ownerChecks (setVisible v) r
 
-unfoldable pub setVisibleBytes : List ℕ → ℕ → OwnerAfter
+unfoldable pub setVisibleBytes : Record → ℕ → OwnerAfter
 setVisibleBytes r v = ownerEntry (setVisible v) r
 
-unfoldable pub sampleBytes : List ℕ → ℕ → OwnerAfter
+unfoldable pub sampleBytes : Record → ℕ → OwnerAfter
 sampleBytes r reading = ownerEntry (sample reading) r
 
 -- ---- save: record, image, used length
@@ -198,16 +200,16 @@ sampleBytes r reading = ownerEntry (sample reading) r
 -- the C caller is told the used length by the answer: after 0 it is 560 more
 pub record SaveAfter : Type 0 where
   pub answer : ℕ
-  pub image : List ℕ
+  pub image : Image
   pub used : ℕ
 
-abbrev pub saveChecks : List ℕ → List ℕ → ℕ → List Check
+abbrev pub saveChecks : Record → Image → ℕ → List Check
 saveChecks r image used = soundRecord r ∷ savingChecks (decode r .device .native) image used
 
-abbrev pub saveDone : List ℕ → List ℕ → ℕ → SaveAfter
+abbrev pub saveDone : Record → Image → ℕ → SaveAfter
 saveDone r image used = record { answer = done; image = savedImage (decode r .device) image used; used = used + entrySize }
 
-unfoldable pub saveBytes : List ℕ → List ℕ → ℕ → SaveAfter
+unfoldable pub saveBytes : Record → Image → ℕ → SaveAfter
 saveBytes r image used =
     let n = firstFailed (saveChecks r image used) in
     ifPassed n (saveDone r image used) (record { answer = n; image = image; used = used })
@@ -215,27 +217,27 @@ saveBytes r image used =
 -- ---- power-on: record, private area, disk, image, used length
 
 -- "Power-on judges no old record ..; a record run of another size is 2 there"
-abbrev pub powerOnChecks : List ℕ → List ℕ → List ℕ → List ℕ → ℕ → List Check
+abbrev pub powerOnChecks : Record → Area → Sectors → Image → ℕ → List Check
 powerOnChecks r a disk image used = ofSize recordSize r ∷ ofSize privateSize a ∷ diskChecks disk image used
 
 pub record PowerOnAfter : Type 0 where
   pub answer : ℕ
-  pub recordArea : List ℕ
-  pub privateArea : List ℕ
+  pub recordArea : Record
+  pub privateArea : Area
 
 -- the record's contents after a power-on from what was saved: "slots empty"
 abbrev pub restoredContents : Saved → Contents
 restoredContents s = record { device = powerOn s; stages = replicate portCount empty }
 
-abbrev pub poweredContents : List ℕ → List ℕ → ℕ → Contents
+abbrev pub poweredContents : Sectors → Image → ℕ → Contents
 poweredContents disk image used = restoredContents (restored (length disk / sectorSize) image used)
 
 -- "private area all zeros"
-abbrev pub powerOnDone : List ℕ → List ℕ → ℕ → PowerOnAfter
+abbrev pub powerOnDone : Sectors → Image → ℕ → PowerOnAfter
 powerOnDone disk image used =
     record { answer = done; recordArea = encode (poweredContents disk image used); privateArea = zeros privateSize }
 
-unfoldable pub powerOnBytes : List ℕ → List ℕ → List ℕ → List ℕ → ℕ → PowerOnAfter
+unfoldable pub powerOnBytes : Record → Area → Sectors → Image → ℕ → PowerOnAfter
 powerOnBytes r a disk image used =
     let n = firstFailed (powerOnChecks r a disk image used) in
     ifPassed n (powerOnDone disk image used) (record { answer = n; recordArea = r; privateArea = a })

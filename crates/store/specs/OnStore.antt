@@ -5,13 +5,14 @@ use Rattle.model.specs.Step.{OwnerStep, lock, unlock, setVisible, sample, Step,
 use Rattle.model.specs.Disk.{Disk}
 use Rattle.store.specs.Store.{Store}
 use Rattle.store.specs.Entries.{takeBytes, serveBytes, giveBytes, workBytes, OwnerAfter, lockBytes, unlockBytes, setVisibleBytes, sampleBytes, saveBytes, powerOnBytes}
+use Rattle.store.specs.Areas.{Area, Record}
 
 -- "Each step gets the record, disk and private area that the last one left"
-abbrev pub store : List ℕ → List ℕ → Disk → Store
+abbrev pub store : Record → Area → Disk → Store
 store r a disk = record { recordArea = r; privateArea = a; disk = disk }
 
 -- the entry of an owner step on the device
-abbrev pub ownerBytes : OwnerStep → List ℕ → OwnerAfter
+abbrev pub ownerBytes : OwnerStep → Record → OwnerAfter
 ownerBytes lock r = lockBytes r
 ownerBytes unlock r = unlockBytes r
 ownerBytes (setVisible v) r = setVisibleBytes r v

@@ -12,6 +12,7 @@ use Rattle.model.specs.Sizes.{historySize}
 use Rattle.model.specs.Device.{Fill, idle, running, Transfer, none, table, fillData, Command, Settings, Thermal, Device, nextSector}
 use Rattle.model.specs.Temperature.{tableIntervalPlace, tableIndexPlace, tableHeadSize, tableBytes}
 use Rattle.store.specs.Areas.{headSize}
+use Rattle.store.specs.Areas.{Record}
 
 -- A slot is empty, held or answered.
 pub data Stage : Type 0 where
@@ -116,7 +117,7 @@ abbrev pub tableNumbers : ℕ → ℕ → List Field
 tableNumbers interval index = (headSize + tableIntervalPlace, 2, interval) ∷ (headSize + tableIndexPlace, 2, index) ∷ []
 
 -- The second half is the temperature table: its interval is feature 3's state, its index and history are the device's.
-unfoldable pub encode : Contents → List ℕ
+unfoldable pub encode : Contents → Record
 encode c =
     let d = c .device in
     form headSize (headFields c) ++ tableBytes (d .settings .logInterval .state) (d .thermal .index) (d .thermal .history)
@@ -135,13 +136,13 @@ transferOf kind first end = if eqb kind 1 then table else if eqb kind 2 then fil
 abbrev pub flagOf : ℕ → Bool
 flagOf n = eqb n 1
 
-abbrev pub stageAt : List ℕ → ℕ → Stage
+abbrev pub stageAt : Record → ℕ → Stage
 stageAt r i = stageOf (get 1 r (slotAt i))
 
-abbrev pub transferAt : List ℕ → ℕ → Transfer
+abbrev pub transferAt : Record → ℕ → Transfer
 transferAt r i = transferOf (get 1 r (slotAt i + 1)) (get 8 r (slotAt i + 8)) (get 8 r (slotAt i + 16))
 
-unfoldable pub decode : List ℕ → Contents
+unfoldable pub decode : Record → Contents
 decode r =
     record {
       device =

@@ -12,6 +12,7 @@ use Rattle.model.specs.Temperature.{tableVersions, tableLimitsPlace, tableLimit
 use Rattle.store.specs.Areas.{recordSize, headSize}
 use Rattle.store.specs.Record.{slotAt, decode}
 use Rattle.store.specs.Sound.{deviceSound}
+use Rattle.store.specs.Areas.{Record}
 
 -- the spare bytes: runs by place and length
 abbrev pub spareRuns : List (ℕ × ℕ)
@@ -22,15 +23,15 @@ zeroRuns [] r = true
 zeroRuns (x ∷ xs) r = allZero (part r (x .0) (x .1)) && zeroRuns xs r
 
 -- "every .. mark, flag .. has one of its named values"
-unfoldable pub flagsNamed : List ℕ → Bool
+unfoldable pub flagsNamed : Record → Bool
 flagsNamed r = leb (get 1 r 16) 1 && leb (get 1 r 17) 1 && leb (get 1 r 34) 1 && (leb (get 1 r 35) 1 && leb (get 1 r 36) 1)
 
 -- a fill runs or not; its numbers are 0 where it does not
-unfoldable pub fillNamed : List ℕ → Bool
+unfoldable pub fillNamed : Record → Bool
 fillNamed r = eqb (get 1 r 18) 1 || (eqb (get 1 r 18) 0 && eqb (get 8 r 48) 0 && (eqb (get 8 r 56) 0 && eqb (get 8 r 64) 0))
 
 -- slot i: a named stage and kind; the transfer's numbers are 0 where it is no fill's
-unfoldable pub slotNamed : List ℕ → ℕ → Bool
+unfoldable pub slotNamed : Record → ℕ → Bool
 slotNamed r i =
     leb (get 1 r (slotAt i)) 2
     && (eqb (get 1 r (slotAt i + 1)) 2 || (leb (get 1 r (slotAt i + 1)) 1 && eqb (get 8 r (slotAt i + 8)) 0 && eqb (get 8 r (slotAt i + 16)) 0))
@@ -42,7 +43,7 @@ tableFixed run at =
     && eqb (get 4 run (at + tableLimitsPlace)) tableLimits
     && (allZero (part run (at + tableZerosPlace) (tableSizePlace - tableZerosPlace)) && eqb (get 2 run (at + tableSizePlace)) historySize)
 
-unfoldable pub soundInPlace : List ℕ → Bool
+unfoldable pub soundInPlace : Record → Bool
 soundInPlace r =
     eqb (length r) recordSize
     && zeroRuns spareRuns r

@@ -12,6 +12,7 @@ use Rattle.model.specs.Fill.{runningCode}
 use Rattle.model.specs.Valid.{pendingCount, pendingLimit}
 use Rattle.store.specs.Areas.{recordSize}
 use Rattle.store.specs.Record.{Contents, encode, decode}
+use Rattle.store.specs.Areas.{Record}
 
 -- "if a fill runs, first ≤ next < end ≤ V"; "the stored code is FFFFh exactly while a fill runs"
 abbrev pub fillSound : ℕ → ℕ → Fill → Bool
@@ -56,5 +57,5 @@ deviceSound d =
 
 -- "it has 1,024 bytes"; "every stage, port, mark, flag .. has one of its named values; spare bytes are zero": written down again,
 -- what it says is the same bytes.
-unfoldable pub sound : List ℕ → Bool
+unfoldable pub sound : Record → Bool
 sound r = eqb (length r) recordSize && same (encode (decode r)) r && deviceSound (decode r .device)
