@@ -6,6 +6,7 @@ from typing import NamedTuple
 
 ROOT = Path(__file__).resolve().parent.parent
 HEADER = ROOT / "include" / "sct_disk.h"
+CONVENTION = "SCT_CALL"     # the header's macro for the calling convention, which every prototype needs
 
 
 class Fault(Exception):
@@ -101,9 +102,9 @@ def prototypes(path=HEADER):
         statement = " ".join(statement.split())
         if not statement or re.fullmatch(r"(?:enum \w+|static inline [^@]*) ?@", statement):
             continue
-        match = re.fullmatch(r"([\w\s*]+?)\b(\w+) ?\(([^()]*)\)", statement)
+        match = re.fullmatch(rf"([\w\s*]+?)\b{CONVENTION} (\w+) ?\(([^()]*)\)", statement)
         if match is None:
-            raise Fault(f"{path.name}: neither a prototype nor an enum nor a static inline function: {statement!r}")
+            raise Fault(f"{path.name}: neither a prototype with {CONVENTION} nor an enum nor a static inline function: {statement!r}")
         parameters = []
         for part in split_at_commas(match[3]):
             if part == "void":

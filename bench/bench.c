@@ -24,7 +24,7 @@
 
 enum { SECTORS = 4096, MOST_ROUNDS = 101 };
 
-static uint8_t  record[SCT_RECORD_BYTES];
+static uint8_t  device[SCT_RECORD_BYTES];
 static uint8_t  area[SCT_PRIVATE_BYTES];
 static uint8_t  disk[(size_t)SECTORS * SCT_SECTOR_BYTES];
 static uint8_t  request[SCT_MAILBOX_BYTES], second[SCT_MAILBOX_BYTES], reply[SCT_MAILBOX_BYTES];
@@ -51,14 +51,14 @@ static void expect_done(uint32_t answer)
 
 static void start(const struct implementation *code)
 {
-    expect_done(code->power_on(record, sizeof record, area, sizeof area, disk, sizeof disk, image, sizeof image, 0));
+    expect_done(code->power_on(device, sizeof device, area, sizeof area, disk, sizeof disk, image, sizeof image, 0));
 }
 
 static void exchange(const struct implementation *code, const uint8_t *mail)
 {
-    expect_done(code->take(record, sizeof record, 1, mail, SCT_MAILBOX_BYTES, area, sizeof area));
-    expect_done(code->serve(record, sizeof record, 1, area, sizeof area, disk, sizeof disk));
-    expect_done(code->give(record, sizeof record, 1, reply, sizeof reply, area, sizeof area));
+    expect_done(code->take(device, sizeof device, 1, mail, SCT_MAILBOX_BYTES, area, sizeof area));
+    expect_done(code->serve(device, sizeof device, 1, area, sizeof area, disk, sizeof disk));
+    expect_done(code->give(device, sizeof device, 1, reply, sizeof reply, area, sizeof area));
 }
 
 static double time_exchange(const struct implementation *code, unsigned times)
@@ -141,7 +141,7 @@ static double fill_in_pieces(const struct implementation *code, unsigned times, 
         exchange(code, request);
         from = nanoseconds_now();
         for (uint32_t written = 0; written < SECTORS; ) {
-            uint64_t result = code->work(record, sizeof record, area, sizeof area, disk, sizeof disk, n);
+            uint64_t result = code->work(device, sizeof device, area, sizeof area, disk, sizeof disk, n);
 
             expect_done(sct_work_answer(result));
             written += sct_work_sectors(result);
@@ -197,7 +197,7 @@ static double time_power_on(const struct implementation *code, unsigned times, u
     make_image(entries);
     from = nanoseconds_now();
     for (unsigned i = 0; i < times; i++)
-        expect_done(code->power_on(record, sizeof record, area, sizeof area, disk, sizeof disk,
+        expect_done(code->power_on(device, sizeof device, area, sizeof area, disk, sizeof disk,
                                    image, sizeof image, image_used));
     return (nanoseconds_now() - from) / times;
 }
@@ -225,7 +225,7 @@ static double time_save(const struct implementation *code, unsigned times, unsig
     make_image(entries);
     from = nanoseconds_now();
     for (unsigned i = 0; i < times; i++)
-        expect_done(code->save(record, sizeof record, image, sizeof image, image_used));
+        expect_done(code->save(device, sizeof device, image, sizeof image, image_used));
     return (nanoseconds_now() - from) / times;
 }
 
@@ -246,7 +246,7 @@ static double run_lock(const struct implementation *code, unsigned times)
     start(code);
     from = nanoseconds_now();
     for (unsigned i = 0; i < times; i++)
-        expect_done(code->lock(record, sizeof record));
+        expect_done(code->lock(device, sizeof device));
     return (nanoseconds_now() - from) / times;
 }
 
@@ -257,7 +257,7 @@ static double run_set_visible(const struct implementation *code, unsigned times)
     start(code);
     from = nanoseconds_now();
     for (unsigned i = 0; i < times; i++)
-        expect_done(code->set_visible(record, sizeof record, SECTORS - i % 2));
+        expect_done(code->set_visible(device, sizeof device, SECTORS - i % 2));
     return (nanoseconds_now() - from) / times;
 }
 
@@ -268,7 +268,7 @@ static double run_sample(const struct implementation *code, unsigned times)
     start(code);
     from = nanoseconds_now();
     for (unsigned i = 0; i < times; i++)
-        expect_done(code->sample(record, sizeof record, (uint8_t)i));
+        expect_done(code->sample(device, sizeof device, (uint8_t)i));
     return (nanoseconds_now() - from) / times;
 }
 

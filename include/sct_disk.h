@@ -1,21 +1,21 @@
 /*
  * sct_disk.h - one virtual ATA disk with SMART Command Transport (SCT), for a
- * system management handler. docs/interface.md says how it is used.
+ * system management handler. docs/interface.md describes its use.
  *
  * The caller owns all memory. The library has no state of its own, allocates
  * nothing and returns for every input. Of the C library it needs memset.
  *
- *   record        1,024 bytes: the device. Opaque; power-on writes it first.
- *   private area  2,624 bytes: four request slots and the fill sector. Opaque;
- *                 no core may see it.
- *   disk          1 to 65,536 sectors. Its length at power-on gives the native
- *                 size N. The visible size V is 1 to N.
- *   mailbox       528 bytes, one for each port: 16 of registers, then a sector.
- *   image         any length. Its first `used` bytes are saved entries of 560.
+ *   device   1,024 bytes: the device record. Opaque; power-on writes it first.
+ *   area     2,624 bytes: the private area, with four request slots and the
+ *            fill sector. Opaque; no core may see it.
+ *   disk     1 to 65,536 sectors. Its length at power-on gives the native size
+ *            N. The visible size V is 1 to N.
+ *   mailbox  528 bytes, one for each port: 16 of registers, then a sector.
+ *   image    any length. Its first `used` bytes are saved entries of 560.
  *
- * What the caller sees to:
- *   - A pointer is good for as many bytes as its length says. With length 0 it
- *     may be NULL. No alignment is needed.
+ * What the caller guarantees:
+ *   - A pointer is valid for as many bytes as its length states. With length 0
+ *     it may be NULL. No alignment is needed.
  *   - The buffers of one call do not overlap.
  *   - One call at a time over one record.
  *   - Nobody else writes record, private area and disk, or the image during a
@@ -26,9 +26,25 @@
  * All else is judged here: any port, number and length, and any bytes. Where
  * the answer is not 0, no byte of any buffer has changed.
  *
- * The code is for x86-64 with the System V calling convention. It uses SSE
- * registers, which a handler that interrupts other code saves, and no x87, MMX
- * or AVX. A call needs less than 1 KiB of stack (measured, not proved).
+ * What the processor, the stack and memset must be (x86-64, 64-bit mode):
+ *   - Calls follow the System V convention. Where the compiler has an attribute
+ *     for it the prototypes carry it (SCT_CALL), so that a caller compiled with
+ *     -mabi=ms calls rightly.
+ *   - The stack pointer is a multiple of 16 at the call. A call needs less than
+ *     1 KiB of stack (measured, not proved).
+ *   - The code uses the red zone, the 128 bytes below the stack pointer. So an
+ *     interrupt or exception that is taken on the same stack during a call
+ *     destroys the call: sct_take was seen to answer 4 on a sound record. Keep
+ *     them off, or give them another stack (IST).
+ *   - SSE is enabled (CR4.OSFXSR set, CR0.EM and CR0.TS clear). A call changes
+ *     SSE registers; a handler that interrupts other code saves them. The code
+ *     has no x87, MMX or AVX instruction.
+ *   - memset is called by the System V convention too. With a memset of another
+ *     convention power-on was seen to answer 0 and to leave the private area
+ *     as it was; docs/interface.md shows how the archive gets one of its own.
+ *   - A memset written in C must not be compiled into a call of itself: use
+ *     -ffreestanding or -fno-builtin, and with gcc also
+ *     -fno-tree-loop-distribute-patterns.
  */
 #ifndef SCT_DISK_H
 #define SCT_DISK_H
@@ -38,6 +54,13 @@
 
 #ifdef __cplusplus
 extern "C" {
+#endif
+
+/* The System V calling convention, also where the caller has another. */
+#if defined(__x86_64__) && defined(__GNUC__)
+#define SCT_CALL __attribute__((sysv_abi))
+#else
+#define SCT_CALL
 #endif
 
 /* ---- Sizes --------------------------------------------------------------- */
@@ -58,14 +81,14 @@ extern "C" {
 /* Where several apply, the first of 4, 2, 1, 5, 3, 6, 7, 8 is given. */
 enum sct_answer {
     SCT_DONE       = 0,
-    SCT_PORT       = 1,  /* port above 3 */
-    SCT_LENGTH     = 2,  /* a buffer is not of its size, or used exceeds it */
-    SCT_STAGE      = 3,  /* the slot is not in the stage that the step needs */
-    SCT_RECORD     = 4,  /* the record is unsound; so is one of another size */
-    SCT_VALUE      = 5,  /* the V asked for is 0 or above N */
-    SCT_IMAGE      = 6,  /* the image, or its used length, is not readable */
+    SCT_BAD_PORT   = 1,  /* port above 3 */
+    SCT_BAD_LENGTH = 2,  /* a buffer is not of its size, or used exceeds it */
+    SCT_BAD_STAGE  = 3,  /* the slot is not in the stage that the step needs */
+    SCT_BAD_RECORD = 4,  /* the record is unsound; so is one of another size */
+    SCT_BAD_VALUE  = 5,  /* the V asked for is 0 or above N */
+    SCT_BAD_IMAGE  = 6,  /* the image, or its used length, is not readable */
     SCT_OTHER_DISK = 7,  /* the newest entry is of a disk of another N */
-    SCT_FULL       = 8   /* the image has 117 entries, or no 560 bytes more */
+    SCT_IMAGE_FULL = 8   /* the image has 117 entries, or no 560 bytes more */
 };
 
 /* ---- A request: take, serve, give ---------------------------------------- */
@@ -75,10 +98,10 @@ enum sct_answer {
  * Refusals: 4; 2 mailbox, private area; 1; 3 slot not empty.
  * Changes: the record, and this slot in the private area.
  */
-uint32_t sct_take(uint8_t *record, size_t record_length,
-                  uint32_t port,
-                  const uint8_t *mailbox, size_t mailbox_length,
-                  uint8_t *private_area, size_t private_area_length);
+uint32_t SCT_CALL sct_take(uint8_t *device, size_t device_length,
+                           uint32_t port,
+                           const uint8_t *mailbox, size_t mailbox_length,
+                           uint8_t *area, size_t area_length);
 
 /*
  * Carries out the request in the slot and leaves the reply there: held becomes
@@ -87,20 +110,20 @@ uint32_t sct_take(uint8_t *record, size_t record_length,
  * Changes: the record; this slot, and the fill sector where a fill begins; for
  * a sector write (34h) one sector below V.
  */
-uint32_t sct_serve(uint8_t *record, size_t record_length,
-                   uint32_t port,
-                   uint8_t *private_area, size_t private_area_length,
-                   uint8_t *disk, size_t disk_length);
+uint32_t SCT_CALL sct_serve(uint8_t *device, size_t device_length,
+                            uint32_t port,
+                            uint8_t *area, size_t area_length,
+                            uint8_t *disk, size_t disk_length);
 
 /*
  * Writes the reply, all 528 bytes, to the mailbox: answered becomes empty.
  * Refusals: 4; 2 mailbox, private area; 1; 3 slot not answered.
  * Changes: the record and the mailbox.
  */
-uint32_t sct_give(uint8_t *record, size_t record_length,
-                  uint32_t port,
-                  uint8_t *mailbox, size_t mailbox_length,
-                  const uint8_t *private_area, size_t private_area_length);
+uint32_t SCT_CALL sct_give(uint8_t *device, size_t device_length,
+                           uint32_t port,
+                           uint8_t *mailbox, size_t mailbox_length,
+                           const uint8_t *area, size_t area_length);
 
 /* ---- The fill in the background ------------------------------------------ */
 
@@ -111,10 +134,10 @@ uint32_t sct_give(uint8_t *record, size_t record_length,
  * Refusals: 4; 2 private area, disk not N sectors.
  * Changes: the record, and the sectors written, all below V.
  */
-uint64_t sct_work(uint8_t *record, size_t record_length,
-                  const uint8_t *private_area, size_t private_area_length,
-                  uint8_t *disk, size_t disk_length,
-                  uint32_t n);
+uint64_t SCT_CALL sct_work(uint8_t *device, size_t device_length,
+                           const uint8_t *area, size_t area_length,
+                           uint8_t *disk, size_t disk_length,
+                           uint32_t n);
 
 static inline uint32_t sct_work_answer(uint64_t result)
 {
@@ -134,31 +157,31 @@ static inline uint32_t sct_work_sectors(uint64_t result)
  * stays as it was.
  * Refusals: 4.  Changes: the record.
  */
-uint32_t sct_lock(uint8_t *record, size_t record_length);
-uint32_t sct_unlock(uint8_t *record, size_t record_length);
+uint32_t SCT_CALL sct_lock(uint8_t *device, size_t device_length);
+uint32_t SCT_CALL sct_unlock(uint8_t *device, size_t device_length);
 
 /*
  * Sets the visible size V. Stops a running fill and drops a pending transfer,
  * also where V stays as it was.
  * Refusals: 4; 5.  Changes: the record.
  */
-uint32_t sct_set_visible(uint8_t *record, size_t record_length, uint64_t v);
+uint32_t SCT_CALL sct_set_visible(uint8_t *device, size_t device_length, uint64_t v);
 
 /*
  * One temperature sample, once a minute: degrees Celsius in two's complement,
  * 80h where there is none.
  * Refusals: 4.  Changes: the record.
  */
-uint32_t sct_sample(uint8_t *record, size_t record_length, uint8_t reading);
+uint32_t SCT_CALL sct_sample(uint8_t *device, size_t device_length, uint8_t reading);
 
 /*
- * Adds one entry to the image, behind its used length. After answer 0 the used
+ * Adds one entry to the image, after its used length. After answer 0 the used
  * length is used + 560; it is not returned, and the caller keeps it.
  * Refusals: 4; 2 used exceeds the image; 6; 7; 8.
  * Changes: the 560 bytes of the image from used on.
  */
-uint32_t sct_save(const uint8_t *record, size_t record_length,
-                  uint8_t *image, size_t image_length, uint64_t used);
+uint32_t SCT_CALL sct_save(const uint8_t *device, size_t device_length,
+                           uint8_t *image, size_t image_length, uint64_t used);
 
 /*
  * Starts the device from the newest entry of the image; with used 0 as a new
@@ -168,10 +191,10 @@ uint32_t sct_save(const uint8_t *record, size_t record_length,
  * exceeds the image; 6; 7.
  * Changes: the record, and the private area, which becomes zeros.
  */
-uint32_t sct_power_on(uint8_t *record, size_t record_length,
-                      uint8_t *private_area, size_t private_area_length,
-                      const uint8_t *disk, size_t disk_length,
-                      const uint8_t *image, size_t image_length, uint64_t used);
+uint32_t SCT_CALL sct_power_on(uint8_t *device, size_t device_length,
+                               uint8_t *area, size_t area_length,
+                               const uint8_t *disk, size_t disk_length,
+                               const uint8_t *image, size_t image_length, uint64_t used);
 
 #ifdef __cplusplus
 }

@@ -9,19 +9,19 @@
 
 enum { SECTORS = 64, MAILBOX = 528, INPUT = 1 + MAILBOX, CODE = 20, STATUS = 12, ERROR = 13 };
 
-static uint8_t record[1024], private_area[2624], disk[SECTORS * 512];
+static uint8_t device[1024], area[2624], disk[SECTORS * 512];
 
 /* One record of input: taken, served, given, then worked, and its line. */
 static void turn(unsigned long number, uint8_t *input)
 {
     uint8_t *mailbox = input + 1;
 
-    ref_take(record, sizeof record, 0, mailbox, MAILBOX, private_area, sizeof private_area);
-    ref_serve(record, sizeof record, 0, private_area, sizeof private_area, disk, sizeof disk);
-    ref_give(record, sizeof record, 0, mailbox, MAILBOX, private_area, sizeof private_area);
-    uint64_t result = ref_work(record, sizeof record, private_area, sizeof private_area, disk, sizeof disk, input[0]);
+    ref_take(device, sizeof device, 0, mailbox, MAILBOX, area, sizeof area);
+    ref_serve(device, sizeof device, 0, area, sizeof area, disk, sizeof disk);
+    ref_give(device, sizeof device, 0, mailbox, MAILBOX, area, sizeof area);
+    uint64_t result = ref_work(device, sizeof device, area, sizeof area, disk, sizeof disk, input[0]);
 
-    unsigned code = record[CODE] + 256u * record[CODE + 1];
+    unsigned code = device[CODE] + 256u * device[CODE + 1];
     printf("%lu %02X %02X %04X %lu\n", number, mailbox[STATUS], mailbox[ERROR], code,
            (unsigned long)(result & 0xFFFFFFFFu));
 }
@@ -33,7 +33,7 @@ int main(void)
     size_t count;
 
     puts("n status error code written");
-    ref_power_on(record, sizeof record, private_area, sizeof private_area, disk, sizeof disk, NULL, 0, 0);
+    ref_power_on(device, sizeof device, area, sizeof area, disk, sizeof disk, NULL, 0, 0);
     while ((count = fread(input, 1, INPUT, stdin)) == INPUT)
         turn(++number, input);
     if (count > 0)

@@ -877,7 +877,7 @@ void list_next(struct list *list, struct step *step)
 {
     struct random *r = &list->random;
 
-    if (list->last_answer == SCT_RECORD && list->style != RECORDS && once_in(r, 3)) {
+    if (list->last_answer == SCT_BAD_RECORD && list->style != RECORDS && once_in(r, 3)) {
         list->count = 0;        /* the record is past use: start again */
         plan_power_on(list);
     }

@@ -61,7 +61,7 @@ void pair_reset(struct pair *pair, struct random *r, uint64_t sectors, enum plac
     pair->put_off = 0;
     fill_disk(r, pair->disk, sectors);
     random_bytes(r, pair->record, sizeof pair->record);
-    random_bytes(r, pair->private_area, sizeof pair->private_area);
+    random_bytes(r, pair->area, sizeof pair->area);
     random_bytes(r, pair->image, sizeof pair->image);
     for (int s = 0; s < 2; s++) {
         size_t length = (size_t)sectors * SCT_SECTOR_BYTES;
@@ -134,7 +134,7 @@ static void prepare_all(const struct pair *pair, const struct step *step)
 {
     prepare(RECORD, pair->record, sizeof pair->record, step->length[RECORD]);
     if (entry_has(step->entry, PRIVATE_AREA))
-        prepare(PRIVATE_AREA, pair->private_area, sizeof pair->private_area, step->length[PRIVATE_AREA]);
+        prepare(PRIVATE_AREA, pair->area, sizeof pair->area, step->length[PRIVATE_AREA]);
     if (entry_has(step->entry, MAILBOX))
         prepare(MAILBOX, step->mailbox, sizeof step->mailbox, step->length[MAILBOX]);
     if (entry_has(step->entry, IMAGE))
@@ -367,7 +367,7 @@ static void keep(struct pair *pair, const struct step *step)
     if (entry_may_change(step->entry, RECORD))
         memcpy(pair->record, side->passed[RECORD], SCT_RECORD_BYTES);
     if (entry_may_change(step->entry, PRIVATE_AREA))
-        memcpy(pair->private_area, side->passed[PRIVATE_AREA], SCT_PRIVATE_BYTES);
+        memcpy(pair->area, side->passed[PRIVATE_AREA], SCT_PRIVATE_BYTES);
     if (step->entry == SAVE) {
         memcpy(pair->image, side->passed[IMAGE], step->length[IMAGE]);
         pair->used = step->used + SCT_ENTRY_BYTES;
@@ -389,7 +389,7 @@ static void note_outcome(const struct pair *pair, const struct step *step, uint6
     outcome->sectors = sct_work_sectors(result);
     outcome->fills_after = pair->record[18] == 1;
     if (step->entry == SERVE && outcome->answer == SCT_DONE)
-        memcpy(outcome->reply, pair->private_area + (size_t)SCT_MAILBOX_BYTES * step->port,
+        memcpy(outcome->reply, pair->area + (size_t)SCT_MAILBOX_BYTES * step->port,
                SCT_REGISTER_BYTES);
 }
 
@@ -406,7 +406,7 @@ bool pair_step(struct pair *pair, const struct step *step, struct outcome *outco
     }
     outcome->filled_before = pair->record[18] == 1;
     if (step->entry == SERVE && step->port < SCT_PORTS)
-        outcome->kind = kind_of_request(pair->private_area + (size_t)SCT_MAILBOX_BYTES * step->port);
+        outcome->kind = kind_of_request(pair->area + (size_t)SCT_MAILBOX_BYTES * step->port);
     prepare_all(pair, step);
     for (int s = 0; s < 2; s++) {
         place_all(pair, &pair->side[s], step);

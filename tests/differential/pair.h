@@ -28,7 +28,7 @@ struct side {
 struct pair {
     struct side    side[2];
     uint8_t        record[SCT_RECORD_BYTES];
-    uint8_t        private_area[SCT_PRIVATE_BYTES];
+    uint8_t        area[SCT_PRIVATE_BYTES];
     uint8_t        image[IMAGE_ROOM];
     uint64_t       used;
     uint64_t       sectors;     /* of the list's disk */

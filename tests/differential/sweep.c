@@ -27,7 +27,7 @@ static bool sweep_step(struct pair *pair, struct statistics *s, const struct ste
 
 struct start {
     uint8_t  record[SCT_RECORD_BYTES];
-    uint8_t  private_area[SCT_PRIVATE_BYTES];
+    uint8_t  area[SCT_PRIVATE_BYTES];
     uint8_t  disk[SECTORS * SCT_SECTOR_BYTES];
     uint8_t  image[3 * SCT_ENTRY_BYTES];
     uint64_t used;
@@ -36,7 +36,7 @@ struct start {
 static void keep_start(struct start *start, const struct pair *pair)
 {
     memcpy(start->record, pair->record, sizeof start->record);
-    memcpy(start->private_area, pair->private_area, sizeof start->private_area);
+    memcpy(start->area, pair->area, sizeof start->area);
     memcpy(start->disk, pair->disk, sizeof start->disk);
     memcpy(start->image, pair->image, sizeof start->image);
     start->used = pair->used;
@@ -45,7 +45,7 @@ static void keep_start(struct start *start, const struct pair *pair)
 static void go_to_start(struct pair *pair, const struct start *start)
 {
     memcpy(pair->record, start->record, sizeof start->record);
-    memcpy(pair->private_area, start->private_area, sizeof start->private_area);
+    memcpy(pair->area, start->area, sizeof start->area);
     memcpy(pair->disk, start->disk, sizeof start->disk);
     for (int i = 0; i < 2; i++)
         memcpy(pair->side[i].arena[DISK].buffer, start->disk, sizeof start->disk);
@@ -156,7 +156,7 @@ static bool try_byte(struct pair *pair, struct statistics *s, struct start *star
             struct step step;
 
             go_to_start(pair, start);
-            held_request(pair->private_area + SCT_MAILBOX_BYTES * HELD_PORT, number);
+            held_request(pair->area + SCT_MAILBOX_BYTES * HELD_PORT, number);
             pair->record[offset] = value;
             step = step_of(pair, e);
             if (!sweep_step(pair, s, &step)) {

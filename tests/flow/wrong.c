@@ -31,21 +31,21 @@ __attribute__((noinline)) static void copy(uint8_t *to, const uint8_t *from)
         to[i] = from[i];
 }
 
-uint32_t sct_take(uint8_t *record, size_t record_length,
+uint32_t sct_take(uint8_t *device, size_t device_length,
                   uint32_t port,
                   const uint8_t *mailbox, size_t mailbox_length,
-                  uint8_t *private_area, size_t private_area_length)
+                  uint8_t *area, size_t area_length)
 {
-    uint8_t *slot = private_area + port * SCT_MAILBOX_BYTES;
+    uint8_t *slot = area + port * SCT_MAILBOX_BYTES;
 
-    if (record_length != SCT_RECORD_BYTES)
-        return SCT_RECORD;
-    if (mailbox_length != SCT_MAILBOX_BYTES || private_area_length != SCT_PRIVATE_BYTES)
-        return SCT_LENGTH;
+    if (device_length != SCT_RECORD_BYTES)
+        return SCT_BAD_RECORD;
+    if (mailbox_length != SCT_MAILBOX_BYTES || area_length != SCT_PRIVATE_BYTES)
+        return SCT_BAD_LENGTH;
     if (port >= SCT_PORTS)
-        return SCT_PORT;
+        return SCT_BAD_PORT;
     if (WRONG == 1 && mailbox[COMMAND] == 0)        /* judged in the mailbox */
-        return SCT_STAGE;
+        return SCT_BAD_STAGE;
     if (WRONG == 2) {
         copy(slot, mailbox);                        /* in a function of its own */
         return SCT_DONE;
@@ -61,45 +61,45 @@ uint32_t sct_take(uint8_t *record, size_t record_length,
         for (size_t i = 0; i < SCT_MAILBOX_BYTES; i++)
             slot[i] = mailbox[i];                   /* the whole copy again */
     if (WRONG == 6)
-        record[22] = mailbox[16];                   /* in the record */
+        device[22] = mailbox[16];                   /* in the record */
     if (WRONG == 7)
         slot[mailbox[0]] = 0;                       /* as an address */
     if (WRONG == 8)
         slot[0] = (uint8_t)(mailbox[0] + 1);        /* in a sum */
     if (WRONG == 9)
-        *(const uint8_t **)record = mailbox;        /* kept for later */
+        *(const uint8_t **)device = mailbox;        /* kept for later */
     if (WRONG == 10)
         *(uint8_t *)mailbox = 0;                    /* written */
     if (WRONG == 11 && slot[COMMAND] == 0)          /* judged at the taking */
-        return SCT_STAGE;
+        return SCT_BAD_STAGE;
     if (WRONG == 12) {
         volatile uint8_t kept = mailbox[0];         /* on the stack */
 
         (void)kept;
     }
-    record[STAGES + STAGE_BYTES * port] = 1;
+    device[STAGES + STAGE_BYTES * port] = 1;
     return WRONG == 13 ? mailbox[0] : SCT_DONE;     /* as the answer */
 }
 
-uint32_t sct_give(uint8_t *record, size_t record_length,
+uint32_t sct_give(uint8_t *device, size_t device_length,
                   uint32_t port,
                   uint8_t *mailbox, size_t mailbox_length,
-                  const uint8_t *private_area, size_t private_area_length)
+                  const uint8_t *area, size_t area_length)
 {
-    const uint8_t *slot = private_area + port * SCT_MAILBOX_BYTES;
+    const uint8_t *slot = area + port * SCT_MAILBOX_BYTES;
 
-    if (record_length != SCT_RECORD_BYTES)
-        return SCT_RECORD;
-    if (mailbox_length != SCT_MAILBOX_BYTES || private_area_length != SCT_PRIVATE_BYTES)
-        return SCT_LENGTH;
+    if (device_length != SCT_RECORD_BYTES)
+        return SCT_BAD_RECORD;
+    if (mailbox_length != SCT_MAILBOX_BYTES || area_length != SCT_PRIVATE_BYTES)
+        return SCT_BAD_LENGTH;
     if (port >= SCT_PORTS)
-        return SCT_PORT;
+        return SCT_BAD_PORT;
     if (WRONG == 14 && mailbox[STATUS] != 0)        /* judged in the mailbox */
-        return SCT_STAGE;
+        return SCT_BAD_STAGE;
     for (size_t i = 0; i < SCT_MAILBOX_BYTES; i++)
         mailbox[i] = WRONG == 15 ? mailbox[i] | slot[i] : slot[i];
     if (WRONG == 16)
         *(uint8_t *)slot = 0;                       /* the slot's bytes do not stay */
-    record[STAGES + STAGE_BYTES * port] = 0;
+    device[STAGES + STAGE_BYTES * port] = 0;
     return SCT_DONE;
 }

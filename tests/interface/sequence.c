@@ -17,8 +17,8 @@
 
 enum { NATIVE = 64, VISIBLE = 48 };   /* sectors; those from 48 on are hidden */
 
-static uint8_t  record[SCT_RECORD_BYTES];
-static uint8_t  private_area[SCT_PRIVATE_BYTES];          /* no core sees it */
+static uint8_t  device[SCT_RECORD_BYTES];
+static uint8_t  area[SCT_PRIVATE_BYTES];          /* no core sees it */
 static uint8_t  disk[NATIVE * SCT_SECTOR_BYTES];
 static uint8_t  mailbox[SCT_PORTS][SCT_MAILBOX_BYTES];    /* common memory */
 static uint8_t  image[2 * SCT_ENTRY_BYTES];
@@ -38,26 +38,26 @@ static void expect(int holds, int line, const char *what)
 
 static uint32_t power_on(void)
 {
-    return sct_power_on(record, sizeof record, private_area, sizeof private_area,
+    return sct_power_on(device, sizeof device, area, sizeof area,
                         disk, sizeof disk, image, sizeof image, used);
 }
 
 static uint32_t take(uint32_t port)
 {
-    return sct_take(record, sizeof record, port, mailbox[port], sizeof mailbox[port],
-                    private_area, sizeof private_area);
+    return sct_take(device, sizeof device, port, mailbox[port], sizeof mailbox[port],
+                    area, sizeof area);
 }
 
 static uint32_t serve(uint32_t port)
 {
-    return sct_serve(record, sizeof record, port, private_area, sizeof private_area,
+    return sct_serve(device, sizeof device, port, area, sizeof area,
                      disk, sizeof disk);
 }
 
 static uint32_t give(uint32_t port)
 {
-    return sct_give(record, sizeof record, port, mailbox[port], sizeof mailbox[port],
-                    private_area, sizeof private_area);
+    return sct_give(device, sizeof device, port, mailbox[port], sizeof mailbox[port],
+                    area, sizeof area);
 }
 
 /* A core has rung. */
@@ -71,7 +71,7 @@ static void handle(uint32_t port)
 /* The handler has time for n sectors. */
 static uint32_t work(uint32_t n)
 {
-    uint64_t result = sct_work(record, sizeof record, private_area, sizeof private_area,
+    uint64_t result = sct_work(device, sizeof device, area, sizeof area,
                                disk, sizeof disk, n);
 
     EXPECT(sct_work_answer(result) == SCT_DONE);
@@ -176,7 +176,7 @@ static void start(void)
 {
     memset(disk + VISIBLE * SCT_SECTOR_BYTES, 'R', (NATIVE - VISIBLE) * SCT_SECTOR_BYTES);
     EXPECT(power_on() == SCT_DONE);
-    EXPECT(sct_set_visible(record, sizeof record, VISIBLE) == SCT_DONE);
+    EXPECT(sct_set_visible(device, sizeof device, VISIBLE) == SCT_DONE);
     printf("power-on of a new disk: %d sectors, %d visible\n", NATIVE, VISIBLE);
 }
 
@@ -211,8 +211,8 @@ static void work_off(void)
 
 static void measure_and_save(void)
 {
-    EXPECT(sct_sample(record, sizeof record, 0x23) == SCT_DONE);
-    EXPECT(sct_save(record, sizeof record, image, sizeof image, used) == SCT_DONE);
+    EXPECT(sct_sample(device, sizeof device, 0x23) == SCT_DONE);
+    EXPECT(sct_save(device, sizeof device, image, sizeof image, used) == SCT_DONE);
     used += SCT_ENTRY_BYTES;
     EXPECT(image[0] == NATIVE && image[8] == VISIBLE && image[17] == 0x23);
     EXPECT(memcmp(image + used - 4, "SCTE", 4) == 0);
@@ -224,8 +224,8 @@ static void measure_and_save(void)
 /* Record and private area are lost with the power; disk, image and used length are not. */
 static void start_again(void)
 {
-    memset(record, 0xA5, sizeof record);
-    memset(private_area, 0xA5, sizeof private_area);
+    memset(device, 0xA5, sizeof device);
+    memset(area, 0xA5, sizeof area);
     EXPECT(power_on() == SCT_DONE);
     printf("power-on from the image\n");
     poll(1, (struct status){ 1, 0, 0x0000, 0, 0, 0, 0x80, 0x80, 0x23 });
@@ -244,13 +244,13 @@ static void refuse(void)
     EXPECT(replied(2, 0x51, 0x10, NULL));
     printf("port 2: sector %d read, sector %d refused\n", VISIBLE - 1, VISIBLE);
 
-    memcpy(before, record, sizeof record);
-    EXPECT(give(3) == SCT_STAGE);
-    EXPECT(sct_set_visible(record, sizeof record, NATIVE + 1) == SCT_VALUE);
-    EXPECT(sct_lock(record, sizeof record - 1) == SCT_RECORD);
-    EXPECT(memcmp(before, record, sizeof record) == 0);
+    memcpy(before, device, sizeof device);
+    EXPECT(give(3) == SCT_BAD_STAGE);
+    EXPECT(sct_set_visible(device, sizeof device, NATIVE + 1) == SCT_BAD_VALUE);
+    EXPECT(sct_lock(device, sizeof device - 1) == SCT_BAD_RECORD);
+    EXPECT(memcmp(before, device, sizeof device) == 0);
     EXPECT(disk_is(VISIBLE));
-    printf("answers %d, %d, %d\n", SCT_STAGE, SCT_VALUE, SCT_RECORD);
+    printf("answers %d, %d, %d\n", SCT_BAD_STAGE, SCT_BAD_VALUE, SCT_BAD_RECORD);
 }
 
 int main(void)

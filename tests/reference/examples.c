@@ -14,7 +14,7 @@
 enum { SECTORS = 64 };
 
 static const struct implementation *code;
-static uint8_t record[SCT_RECORD_BYTES];
+static uint8_t device[SCT_RECORD_BYTES];
 static uint8_t area[SCT_PRIVATE_BYTES];
 static uint8_t disk[SECTORS * SCT_SECTOR_BYTES];
 static uint8_t image[3 * SCT_ENTRY_BYTES];
@@ -35,20 +35,20 @@ static void expect(const char *what, uint64_t got, uint64_t wanted)
 
 static void power_on(uint64_t used)
 {
-    expect("power-on", code->power_on(record, sizeof record, area, sizeof area, disk, sizeof disk,
+    expect("power-on", code->power_on(device, sizeof device, area, sizeof area, disk, sizeof disk,
                                       image, sizeof image, used), SCT_DONE);
 }
 
 static void send(uint32_t port)
 {
-    expect("take", code->take(record, sizeof record, port, mail, sizeof mail, area, sizeof area), SCT_DONE);
-    expect("serve", code->serve(record, sizeof record, port, area, sizeof area, disk, sizeof disk), SCT_DONE);
-    expect("give", code->give(record, sizeof record, port, mail, sizeof mail, area, sizeof area), SCT_DONE);
+    expect("take", code->take(device, sizeof device, port, mail, sizeof mail, area, sizeof area), SCT_DONE);
+    expect("serve", code->serve(device, sizeof device, port, area, sizeof area, disk, sizeof disk), SCT_DONE);
+    expect("give", code->give(device, sizeof device, port, mail, sizeof mail, area, sizeof area), SCT_DONE);
 }
 
 static uint32_t work(uint32_t n)
 {
-    uint64_t result = code->work(record, sizeof record, area, sizeof area, disk, sizeof disk, n);
+    uint64_t result = code->work(device, sizeof device, area, sizeof area, disk, sizeof disk, n);
 
     expect("work", sct_work_answer(result), SCT_DONE);
     return sct_work_sectors(result);
@@ -56,7 +56,7 @@ static uint32_t work(uint32_t n)
 
 static void sample(uint8_t reading)
 {
-    expect("sample", code->sample(record, sizeof record, reading), SCT_DONE);
+    expect("sample", code->sample(device, sizeof device, reading), SCT_DONE);
 }
 
 /* The status sector, read on port 3 (which stops nothing). */
@@ -193,7 +193,7 @@ static void shrunk_disk(void)
     build_fill(mail, SMART, 1, 0, 0, 0x11111111);
     expect_key("fill of all", 0);
     expect("work", work(4), 4);
-    expect("set V", code->set_visible(record, sizeof record, 32), SCT_DONE);
+    expect("set V", code->set_visible(device, sizeof device, 32), SCT_DONE);
     expect("work after V shrank", work(100), 0);
     expect("code", stored_code(), 0x0008);
     build_sector(mail, true, 32, 1);
@@ -204,14 +204,14 @@ static void shrunk_disk(void)
 static void locked_disk(void)
 {
     power_on(0);
-    expect("lock", code->lock(record, sizeof record), SCT_DONE);
+    expect("lock", code->lock(device, sizeof device), SCT_DONE);
     build_key(mail, SMART, 9, 9, 0, 0, 0);
     expect_key("key under the lock", 0x0012);
     build_sector(mail, false, 1000, 2);
     send(0);
     expect("24h under the lock", mail[R_ERROR], 0x04);
     expect("24h under the lock has no code", reply_value(mail), 0);
-    expect("unlock", code->unlock(record, sizeof record), SCT_DONE);
+    expect("unlock", code->unlock(device, sizeof device), SCT_DONE);
     expect("action is recorded under the lock too", get16(status() + 16), 9);
 }
 
@@ -226,8 +226,8 @@ static void flag_and_image(void)
     expect_key("interval 2, kept", 0);
     sample(20);
     sample(21);
-    expect("save", code->save(record, sizeof record, image, sizeof image, 0), SCT_DONE);
-    expect("second save", code->save(record, sizeof record, image, sizeof image, 560), SCT_DONE);
+    expect("save", code->save(device, sizeof device, image, sizeof image, 0), SCT_DONE);
+    expect("second save", code->save(device, sizeof device, image, sizeof image, 560), SCT_DONE);
     expect("place of the first trailer", get_bytes(image + 560 + 548, 4), 544);
     power_on(1120);
     expect("flag believed as saved", status()[6], 1);

@@ -1198,7 +1198,7 @@ static uint32_t judge_image(const uint8_t *image, uint64_t used, uint64_t native
     const uint8_t *newest;
 
     if (!image_readable(image, used))
-        return SCT_IMAGE;
+        return SCT_BAD_IMAGE;
     newest = newest_entry(image, used);
     if (newest != NULL && load64(newest + BODY_NATIVE) != native)
         return SCT_OTHER_DISK;
@@ -1309,75 +1309,75 @@ static bool disk_length_right(const struct device *d, size_t length)
 static uint32_t judge_port(const struct device *d, uint32_t port, enum stage needed)
 {
     if (port >= SCT_PORTS)
-        return SCT_PORT;
-    return d->port[port].stage == needed ? SCT_DONE : SCT_STAGE;
+        return SCT_BAD_PORT;
+    return d->port[port].stage == needed ? SCT_DONE : SCT_BAD_STAGE;
 }
 
 /* "copies the mailbox into the port's slot. Slot goes from empty to held." */
-uint32_t REF(take)(uint8_t *record, size_t record_length, uint32_t port,
+uint32_t REF(take)(uint8_t *device, size_t device_length, uint32_t port,
                    const uint8_t *mailbox, size_t mailbox_length,
-                   uint8_t *private_area, size_t private_length)
+                   uint8_t *area, size_t area_length)
 {
     struct device d;
     uint32_t answer;
 
-    if (!open_record(&d, record, record_length))
-        return SCT_RECORD;
+    if (!open_record(&d, device, device_length))
+        return SCT_BAD_RECORD;
     if (PLANTED(18) && port >= SCT_PORTS)
-        return SCT_PORT;
-    if (mailbox_length != SCT_MAILBOX_BYTES || private_length != SCT_PRIVATE_BYTES)
-        return SCT_LENGTH;
+        return SCT_BAD_PORT;
+    if (mailbox_length != SCT_MAILBOX_BYTES || area_length != SCT_PRIVATE_BYTES)
+        return SCT_BAD_LENGTH;
     answer = judge_port(&d, port, EMPTY);
     if (answer != SCT_DONE)
         return answer;
-    memcpy(SLOT(private_area, port), mailbox, SCT_MAILBOX_BYTES);
+    memcpy(SLOT(area, port), mailbox, SCT_MAILBOX_BYTES);
 #if PLANTED(13)
     planted_mailbox[port] = mailbox;
 #endif
     d.port[port].stage = HELD;
-    write_device(record, &d);
+    write_device(device, &d);
     return SCT_DONE;
 }
 
 /* "answers the held request from the slot alone and leaves the reply in the slot." */
-uint32_t REF(serve)(uint8_t *record, size_t record_length, uint32_t port,
-                    uint8_t *private_area, size_t private_length,
+uint32_t REF(serve)(uint8_t *device, size_t device_length, uint32_t port,
+                    uint8_t *area, size_t area_length,
                     uint8_t *disk, size_t disk_length)
 {
     struct device d;
     uint32_t answer;
 
-    if (!open_record(&d, record, record_length))
-        return SCT_RECORD;
-    if (private_length != SCT_PRIVATE_BYTES || !disk_length_right(&d, disk_length))
-        return SCT_LENGTH;
+    if (!open_record(&d, device, device_length))
+        return SCT_BAD_RECORD;
+    if (area_length != SCT_PRIVATE_BYTES || !disk_length_right(&d, disk_length))
+        return SCT_BAD_LENGTH;
     answer = judge_port(&d, port, HELD);
     if (answer != SCT_DONE)
         return answer;
-    serve_slot(&d, record, port, private_area, disk);
+    serve_slot(&d, device, port, area, disk);
     d.port[port].stage = ANSWERED;
-    write_device(record, &d);
+    write_device(device, &d);
     return SCT_DONE;
 }
 
 /* "writes all 528 reply bytes to the mailbox. Answered to empty; the slot's bytes stay." */
-uint32_t REF(give)(uint8_t *record, size_t record_length, uint32_t port,
+uint32_t REF(give)(uint8_t *device, size_t device_length, uint32_t port,
                    uint8_t *mailbox, size_t mailbox_length,
-                   const uint8_t *private_area, size_t private_length)
+                   const uint8_t *area, size_t area_length)
 {
     struct device d;
     uint32_t answer;
 
-    if (!open_record(&d, record, record_length))
-        return SCT_RECORD;
-    if (mailbox_length != SCT_MAILBOX_BYTES || private_length != SCT_PRIVATE_BYTES)
-        return SCT_LENGTH;
+    if (!open_record(&d, device, device_length))
+        return SCT_BAD_RECORD;
+    if (mailbox_length != SCT_MAILBOX_BYTES || area_length != SCT_PRIVATE_BYTES)
+        return SCT_BAD_LENGTH;
     answer = judge_port(&d, port, ANSWERED);
     if (answer != SCT_DONE)
         return answer;
-    memcpy(mailbox, SLOT(private_area, port), SCT_MAILBOX_BYTES);
+    memcpy(mailbox, SLOT(area, port), SCT_MAILBOX_BYTES);
     d.port[port].stage = EMPTY;
-    write_device(record, &d);
+    write_device(device, &d);
     return SCT_DONE;
 }
 
@@ -1385,72 +1385,72 @@ uint32_t REF(give)(uint8_t *record, size_t record_length, uint32_t port,
  * "writes the next sectors of a running fill, as many as n and what is left
  * allow, and reports how many it wrote. None running, or n = 0: reports 0."
  */
-uint64_t REF(work)(uint8_t *record, size_t record_length,
-                   const uint8_t *private_area, size_t private_length,
+uint64_t REF(work)(uint8_t *device, size_t device_length,
+                   const uint8_t *area, size_t area_length,
                    uint8_t *disk, size_t disk_length, uint32_t n)
 {
     struct device d;
     uint32_t sectors;
 
-    if (!open_record(&d, record, record_length))
-        return (uint64_t)SCT_RECORD << 32;
-    if (private_length != SCT_PRIVATE_BYTES || !disk_length_right(&d, disk_length))
-        return (uint64_t)SCT_LENGTH << 32;
-    sectors = advance_fill(&d, disk, FILL_SECTOR(private_area), n);
+    if (!open_record(&d, device, device_length))
+        return (uint64_t)SCT_BAD_RECORD << 32;
+    if (area_length != SCT_PRIVATE_BYTES || !disk_length_right(&d, disk_length))
+        return (uint64_t)SCT_BAD_LENGTH << 32;
+    sectors = advance_fill(&d, disk, FILL_SECTOR(area), n);
     if (PLANTED(12) && n == 0)
         sectors = 1;
-    write_device(record, &d);
+    write_device(device, &d);
     return (uint64_t)SCT_DONE << 32 | sectors;
 }
 
-static uint32_t set_lock(uint8_t *record, size_t record_length, uint8_t locked)
+static uint32_t set_lock(uint8_t *device, size_t device_length, uint8_t locked)
 {
     struct device d;
 
-    if (!open_record(&d, record, record_length))
-        return SCT_RECORD;
+    if (!open_record(&d, device, device_length))
+        return SCT_BAD_RECORD;
     stop_and_drop(&d);
     d.locked = locked;
-    write_device(record, &d);
+    write_device(device, &d);
     return SCT_DONE;
 }
 
-uint32_t REF(lock)(uint8_t *record, size_t record_length)
+uint32_t REF(lock)(uint8_t *device, size_t device_length)
 {
-    return set_lock(record, record_length, 1);
+    return set_lock(device, device_length, 1);
 }
 
-uint32_t REF(unlock)(uint8_t *record, size_t record_length)
+uint32_t REF(unlock)(uint8_t *device, size_t device_length)
 {
-    return set_lock(record, record_length, 0);
+    return set_lock(device, device_length, 0);
 }
 
 /* The flag "is cleared [..] by a changed V". */
-uint32_t REF(set_visible)(uint8_t *record, size_t record_length, uint64_t v)
+uint32_t REF(set_visible)(uint8_t *device, size_t device_length, uint64_t v)
 {
     struct device d;
 
-    if (!open_record(&d, record, record_length))
-        return SCT_RECORD;
+    if (!open_record(&d, device, device_length))
+        return SCT_BAD_RECORD;
     if (v < 1 || v > d.native)
-        return SCT_VALUE;
+        return SCT_BAD_VALUE;
     if (!PLANTED(6))
         stop_and_drop(&d);
     if (v != d.visible)
         d.initialized = 0;
     d.visible = v;
-    write_device(record, &d);
+    write_device(device, &d);
     return SCT_DONE;
 }
 
-uint32_t REF(sample)(uint8_t *record, size_t record_length, uint8_t reading)
+uint32_t REF(sample)(uint8_t *device, size_t device_length, uint8_t reading)
 {
     struct device d;
 
-    if (!open_record(&d, record, record_length))
-        return SCT_RECORD;
-    take_sample(&d, record + AT_TABLE, reading);
-    write_device(record, &d);
+    if (!open_record(&d, device, device_length))
+        return SCT_BAD_RECORD;
+    take_sample(&d, device + AT_TABLE, reading);
+    write_device(device, &d);
     return SCT_DONE;
 }
 
@@ -1461,33 +1461,33 @@ static bool image_full(size_t image_length, uint64_t used)
 }
 
 /* "A save adds one entry behind the used length; other bytes stay." */
-uint32_t REF(save)(const uint8_t *record, size_t record_length,
+uint32_t REF(save)(const uint8_t *device, size_t device_length,
                    uint8_t *image, size_t image_length, uint64_t used)
 {
     struct device d;
     uint32_t answer;
     uint8_t *entry;
 
-    if (!open_record(&d, record, record_length))
-        return SCT_RECORD;
+    if (!open_record(&d, device, device_length))
+        return SCT_BAD_RECORD;
     if (used > image_length)
-        return SCT_LENGTH;
+        return SCT_BAD_LENGTH;
     answer = judge_image(image, used, d.native);
     if (PLANTED(22) && answer == SCT_OTHER_DISK && image_full(image_length, used))
-        return SCT_FULL;
+        return SCT_IMAGE_FULL;
     if (answer != SCT_DONE)
         return answer;
     if (image_full(image_length, used))
-        return SCT_FULL;
+        return SCT_IMAGE_FULL;
     entry = image + used;
-    write_body(entry, &d, record + AT_TABLE);
+    write_body(entry, &d, device + AT_TABLE);
     write_trailer(entry + BODY_BYTES, (uint32_t)(used / SCT_ENTRY_BYTES) + 1);
     return SCT_DONE;
 }
 
 /* "private area all zeros" */
-uint32_t REF(power_on)(uint8_t *record, size_t record_length,
-                       uint8_t *private_area, size_t private_length,
+uint32_t REF(power_on)(uint8_t *device, size_t device_length,
+                       uint8_t *area, size_t area_length,
                        const uint8_t *disk, size_t disk_length,
                        const uint8_t *image, size_t image_length, uint64_t used)
 {
@@ -1497,18 +1497,18 @@ uint32_t REF(power_on)(uint8_t *record, size_t record_length,
     uint32_t answer;
 
     (void)disk;     /* passed for its length */
-    if (record_length != SCT_RECORD_BYTES || private_length != SCT_PRIVATE_BYTES ||
+    if (device_length != SCT_RECORD_BYTES || area_length != SCT_PRIVATE_BYTES ||
         !disk_length_possible(disk_length) || used > image_length)
-        return SCT_LENGTH;
+        return SCT_BAD_LENGTH;
     answer = judge_image(image, used, native);
     if (answer != SCT_DONE)
         return answer;
     newest = newest_entry(image, used);
-    memset(record, 0, AT_TABLE);
-    start_afresh(&d, record + AT_TABLE, native);
+    memset(device, 0, AT_TABLE);
+    start_afresh(&d, device + AT_TABLE, native);
     if (newest != NULL)
-        restore(&d, record + AT_TABLE, newest);
-    write_device(record, &d);
-    memset(private_area, 0, PLANTED(20) ? SCT_MAILBOX_BYTES * SCT_PORTS : SCT_PRIVATE_BYTES);
+        restore(&d, device + AT_TABLE, newest);
+    write_device(device, &d);
+    memset(area, 0, PLANTED(20) ? SCT_MAILBOX_BYTES * SCT_PORTS : SCT_PRIVATE_BYTES);
     return SCT_DONE;
 }

@@ -18,27 +18,27 @@
 #define REF_JOIN(prefix, name)  REF_JOIN_(prefix, name)
 #define REF(name)               REF_JOIN(REF_PREFIX, name)
 
-uint32_t REF(power_on)(uint8_t *record, size_t record_length,
-                       uint8_t *private_area, size_t private_length,
+uint32_t REF(power_on)(uint8_t *device, size_t device_length,
+                       uint8_t *area, size_t area_length,
                        const uint8_t *disk, size_t disk_length,
                        const uint8_t *image, size_t image_length, uint64_t used);
-uint32_t REF(take)(uint8_t *record, size_t record_length, uint32_t port,
+uint32_t REF(take)(uint8_t *device, size_t device_length, uint32_t port,
                    const uint8_t *mailbox, size_t mailbox_length,
-                   uint8_t *private_area, size_t private_length);
-uint32_t REF(serve)(uint8_t *record, size_t record_length, uint32_t port,
-                    uint8_t *private_area, size_t private_length,
+                   uint8_t *area, size_t area_length);
+uint32_t REF(serve)(uint8_t *device, size_t device_length, uint32_t port,
+                    uint8_t *area, size_t area_length,
                     uint8_t *disk, size_t disk_length);
-uint32_t REF(give)(uint8_t *record, size_t record_length, uint32_t port,
+uint32_t REF(give)(uint8_t *device, size_t device_length, uint32_t port,
                    uint8_t *mailbox, size_t mailbox_length,
-                   const uint8_t *private_area, size_t private_length);
-uint64_t REF(work)(uint8_t *record, size_t record_length,
-                   const uint8_t *private_area, size_t private_length,
+                   const uint8_t *area, size_t area_length);
+uint64_t REF(work)(uint8_t *device, size_t device_length,
+                   const uint8_t *area, size_t area_length,
                    uint8_t *disk, size_t disk_length, uint32_t n);
-uint32_t REF(lock)(uint8_t *record, size_t record_length);
-uint32_t REF(unlock)(uint8_t *record, size_t record_length);
-uint32_t REF(set_visible)(uint8_t *record, size_t record_length, uint64_t v);
-uint32_t REF(sample)(uint8_t *record, size_t record_length, uint8_t reading);
-uint32_t REF(save)(const uint8_t *record, size_t record_length,
+uint32_t REF(lock)(uint8_t *device, size_t device_length);
+uint32_t REF(unlock)(uint8_t *device, size_t device_length);
+uint32_t REF(set_visible)(uint8_t *device, size_t device_length, uint64_t v);
+uint32_t REF(sample)(uint8_t *device, size_t device_length, uint8_t reading);
+uint32_t REF(save)(const uint8_t *device, size_t device_length,
                    uint8_t *image, size_t image_length, uint64_t used);
 
 #endif /* REFERENCE_H */

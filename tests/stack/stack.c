@@ -39,7 +39,7 @@ static const char *const entry_name[ENTRIES] = {
 
 /* ---- The buffers, and one call ------------------------------------------------ */
 
-static uint8_t  record[SCT_RECORD_BYTES];
+static uint8_t  device[SCT_RECORD_BYTES];
 static uint8_t  area[SCT_PRIVATE_BYTES];
 static uint8_t  disk[SECTORS * SCT_SECTOR_BYTES];
 static uint8_t  mail[SCT_MAILBOX_BYTES];
@@ -62,36 +62,36 @@ static void make_call(void *argument)
 
     switch (c->entry) {
     case POWER_ON:
-        c->answer = code->power_on(record, sizeof record, area, sizeof area, disk, sizeof disk,
+        c->answer = code->power_on(device, sizeof device, area, sizeof area, disk, sizeof disk,
                                    image, sizeof image, used);
         break;
     case TAKE:
-        c->answer = code->take(record, sizeof record, c->port, mail, sizeof mail, area, sizeof area);
+        c->answer = code->take(device, sizeof device, c->port, mail, sizeof mail, area, sizeof area);
         break;
     case SERVE:
-        c->answer = code->serve(record, sizeof record, c->port, area, sizeof area, disk, sizeof disk);
+        c->answer = code->serve(device, sizeof device, c->port, area, sizeof area, disk, sizeof disk);
         break;
     case GIVE:
-        c->answer = code->give(record, sizeof record, c->port, mail, sizeof mail, area, sizeof area);
+        c->answer = code->give(device, sizeof device, c->port, mail, sizeof mail, area, sizeof area);
         break;
     case WORK:
-        c->answer = sct_work_answer(code->work(record, sizeof record, area, sizeof area,
+        c->answer = sct_work_answer(code->work(device, sizeof device, area, sizeof area,
                                                disk, sizeof disk, c->n));
         break;
     case LOCK:
-        c->answer = code->lock(record, sizeof record);
+        c->answer = code->lock(device, sizeof device);
         break;
     case UNLOCK:
-        c->answer = code->unlock(record, sizeof record);
+        c->answer = code->unlock(device, sizeof device);
         break;
     case SET_VISIBLE:
-        c->answer = code->set_visible(record, sizeof record, c->visible);
+        c->answer = code->set_visible(device, sizeof device, c->visible);
         break;
     case SAMPLE:
-        c->answer = code->sample(record, sizeof record, c->reading);
+        c->answer = code->sample(device, sizeof device, c->reading);
         break;
     default:
-        c->answer = code->save(record, sizeof record, image, sizeof image, used);
+        c->answer = code->save(device, sizeof device, image, sizeof image, used);
         break;
     }
 }
@@ -190,18 +190,18 @@ static size_t depth_with(struct call *call, uint8_t paint)
 }
 
 /* The buffers of a call, to make it again from the same state. */
-static struct { uint8_t record[SCT_RECORD_BYTES], area[SCT_PRIVATE_BYTES], mail[SCT_MAILBOX_BYTES]; } kept;
+static struct { uint8_t device[SCT_RECORD_BYTES], area[SCT_PRIVATE_BYTES], mail[SCT_MAILBOX_BYTES]; } kept;
 
 static void keep_state(void)
 {
-    memcpy(kept.record, record, sizeof record);
+    memcpy(kept.device, device, sizeof device);
     memcpy(kept.area, area, sizeof area);
     memcpy(kept.mail, mail, sizeof mail);
 }
 
 static void restore_state(void)
 {
-    memcpy(record, kept.record, sizeof record);
+    memcpy(device, kept.device, sizeof device);
     memcpy(area, kept.area, sizeof area);
     memcpy(mail, kept.mail, sizeof mail);
 }
@@ -344,7 +344,7 @@ static void random_states(void)
     for (int i = 0; i < RANDOM_TRIALS; i++) {
         struct call c = call_of((enum entry)below(&r, ENTRIES));
 
-        random_record(&r, record, SECTORS);
+        random_record(&r, device, SECTORS);
         request((unsigned)below(&r, REQUESTS));
         c.port = (uint32_t)below(&r, 5);
         if (c.port < SCT_PORTS)
@@ -354,7 +354,7 @@ static void random_states(void)
         c.visible = below(&r, SECTORS + 2);
         c.reading = (uint8_t)random64(&r);
         if (once_in(&r, 10))
-            record[below(&r, SCT_RECORD_BYTES)] ^= (uint8_t)random64(&r);
+            device[below(&r, SCT_RECORD_BYTES)] ^= (uint8_t)random64(&r);
         measure(&c);
     }
 }
