@@ -47,11 +47,27 @@ static void expect_done(uint32_t answer)
     exit(1);
 }
 
-/* ---- What is measured: each runs `times` and gives nanoseconds for one --------- */
+/* ---- The calls --------------------------------------------------------------------- */
+
+static void power_on(const struct implementation *code)
+{
+    expect_done(code->power_on(device, sizeof device, area, sizeof area, disk, sizeof disk,
+                               image, sizeof image, image_used));
+}
+
+static void make_image(unsigned entries)
+{
+    struct random r = random_for(5, 5);
+
+    for (uint32_t k = 1; k <= entries; k++)
+        random_entry(&r, image, k, SECTORS);
+    image_used = (uint64_t)SCT_ENTRY_BYTES * entries;
+}
 
 static void start(const struct implementation *code)
 {
-    expect_done(code->power_on(device, sizeof device, area, sizeof area, disk, sizeof disk, image, sizeof image, 0));
+    make_image(0);
+    power_on(code);
 }
 
 static void exchange(const struct implementation *code, const uint8_t *mail)
@@ -61,72 +77,47 @@ static void exchange(const struct implementation *code, const uint8_t *mail)
     expect_done(code->give(device, sizeof device, 1, reply, sizeof reply, area, sizeof area));
 }
 
-static double time_exchange(const struct implementation *code, unsigned times)
+static void save(const struct implementation *code)
 {
-    double from = nanoseconds_now();
-
-    for (unsigned i = 0; i < times; i++)
-        exchange(code, request);
-    return (nanoseconds_now() - from) / times;
+    expect_done(code->save(device, sizeof device, image, sizeof image, image_used));
 }
 
-static double run_status(const struct implementation *code, unsigned times)
-{
-    start(code);
-    build_status(request, SMART);
-    return time_exchange(code, times);
-}
+/* ---- What is measured: each run_ function gives nanoseconds for one of `times` ------ */
 
-static double run_key(const struct implementation *code, unsigned times)
-{
-    start(code);
-    build_key(request, SMART, 3, 1, 1, 70, 0);
-    return time_exchange(code, times);
-}
+/* A run of one statement, in which i counts, after a statement that is not measured. */
+#define MEASURE(name, prepare, statement)                                               \
+    static double run_##name(const struct implementation *code, unsigned times)         \
+    {                                                                                   \
+        double from;                                                                    \
+                                                                                        \
+        prepare;                                                                        \
+        from = nanoseconds_now();                                                       \
+        for (unsigned i = 0; i < times; i++)                                            \
+            statement;                                                                  \
+        return (nanoseconds_now() - from) / times;                                      \
+    }
 
-static double run_fill_key(const struct implementation *code, unsigned times)
-{
-    start(code);
-    build_fill(request, SMART, 1, 0, 0, 0x12345678);
-    return time_exchange(code, times);
-}
+#define MEASURE_EXCHANGE(name, build) MEASURE(name, (start(code), build), exchange(code, request))
 
-static double run_refused_key(const struct implementation *code, unsigned times)
-{
-    start(code);
-    build_fill(request, SMART, 1, 1, UINT64_MAX, 0);
-    return time_exchange(code, times);
-}
+MEASURE_EXCHANGE(status, build_status(request, SMART))
+MEASURE_EXCHANGE(key, build_key(request, SMART, 3, 1, 1, 70, 0))
+MEASURE_EXCHANGE(fill_key, build_fill(request, SMART, 1, 0, 0, 0x12345678))
+MEASURE_EXCHANGE(refused_key, build_fill(request, SMART, 1, 1, UINT64_MAX, 0))
+MEASURE_EXCHANGE(read, build_sector(request, false, 77, 1))
+MEASURE_EXCHANGE(write, build_sector(request, true, 77, 1))
 
 /* The key and the transfer, two exchanges. */
-static double run_table(const struct implementation *code, unsigned times)
-{
-    double from;
+MEASURE(table, (start(code), build_key(request, SMART, 5, 1, 2, 0, 0), build_data_read(second, SMART)),
+        (exchange(code, request), exchange(code, second)))
 
-    start(code);
-    build_key(request, SMART, 5, 1, 2, 0, 0);
-    build_data_read(second, SMART);
-    from = nanoseconds_now();
-    for (unsigned i = 0; i < times; i++) {
-        exchange(code, request);
-        exchange(code, second);
-    }
-    return (nanoseconds_now() - from) / times;
-}
-
-static double run_read(const struct implementation *code, unsigned times)
-{
-    start(code);
-    build_sector(request, false, 77, 1);
-    return time_exchange(code, times);
-}
-
-static double run_write(const struct implementation *code, unsigned times)
-{
-    start(code);
-    build_sector(request, true, 77, 1);
-    return time_exchange(code, times);
-}
+MEASURE(lock, start(code), expect_done(code->lock(device, sizeof device)))
+MEASURE(set_visible, start(code), expect_done(code->set_visible(device, sizeof device, SECTORS - i % 2)))
+MEASURE(sample, start(code), expect_done(code->sample(device, sizeof device, (uint8_t)i)))
+MEASURE(save_first, start(code), save(code))
+MEASURE(save_last, (start(code), make_image(116)), save(code))
+MEASURE(power_on_0, make_image(0), power_on(code))
+MEASURE(power_on_1, make_image(1), power_on(code))
+MEASURE(power_on_117, make_image(117), power_on(code))
 
 /* All sectors in calls of n; the key that starts the fill is not counted. */
 static double fill_in_pieces(const struct implementation *code, unsigned times, uint32_t n)
@@ -179,97 +170,6 @@ static double run_copies(unsigned times)
 static double run_work_or_copies(const struct implementation *code, unsigned times)
 {
     return code == &archive ? run_work_all(code, times) : run_copies(times);
-}
-
-static void make_image(unsigned entries)
-{
-    struct random r = random_for(5, 5);
-
-    for (uint32_t k = 1; k <= entries; k++)
-        random_entry(&r, image, k, SECTORS);
-    image_used = (uint64_t)SCT_ENTRY_BYTES * entries;
-}
-
-static double time_power_on(const struct implementation *code, unsigned times, unsigned entries)
-{
-    double from;
-
-    make_image(entries);
-    from = nanoseconds_now();
-    for (unsigned i = 0; i < times; i++)
-        expect_done(code->power_on(device, sizeof device, area, sizeof area, disk, sizeof disk,
-                                   image, sizeof image, image_used));
-    return (nanoseconds_now() - from) / times;
-}
-
-static double run_power_on_0(const struct implementation *code, unsigned times)
-{
-    return time_power_on(code, times, 0);
-}
-
-static double run_power_on_1(const struct implementation *code, unsigned times)
-{
-    return time_power_on(code, times, 1);
-}
-
-static double run_power_on_117(const struct implementation *code, unsigned times)
-{
-    return time_power_on(code, times, 117);
-}
-
-static double time_save(const struct implementation *code, unsigned times, unsigned entries)
-{
-    double from;
-
-    start(code);
-    make_image(entries);
-    from = nanoseconds_now();
-    for (unsigned i = 0; i < times; i++)
-        expect_done(code->save(device, sizeof device, image, sizeof image, image_used));
-    return (nanoseconds_now() - from) / times;
-}
-
-static double run_save_first(const struct implementation *code, unsigned times)
-{
-    return time_save(code, times, 0);
-}
-
-static double run_save_last(const struct implementation *code, unsigned times)
-{
-    return time_save(code, times, 116);
-}
-
-static double run_lock(const struct implementation *code, unsigned times)
-{
-    double from;
-
-    start(code);
-    from = nanoseconds_now();
-    for (unsigned i = 0; i < times; i++)
-        expect_done(code->lock(device, sizeof device));
-    return (nanoseconds_now() - from) / times;
-}
-
-static double run_set_visible(const struct implementation *code, unsigned times)
-{
-    double from;
-
-    start(code);
-    from = nanoseconds_now();
-    for (unsigned i = 0; i < times; i++)
-        expect_done(code->set_visible(device, sizeof device, SECTORS - i % 2));
-    return (nanoseconds_now() - from) / times;
-}
-
-static double run_sample(const struct implementation *code, unsigned times)
-{
-    double from;
-
-    start(code);
-    from = nanoseconds_now();
-    for (unsigned i = 0; i < times; i++)
-        expect_done(code->sample(device, sizeof device, (uint8_t)i));
-    return (nanoseconds_now() - from) / times;
 }
 
 /* ---- The table ------------------------------------------------------------------ */

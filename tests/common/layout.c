@@ -7,94 +7,71 @@
 
 /* ---- Fields of the record ------------------------------------------------ */
 
-enum { SLOTS_AT = 72, SLOT_SIZE = 24, TABLE_AT = 512, HISTORY_AT = 546, HISTORY_SIZE = 478 };
+/*
+ * Every byte of the record is in one field. `place` is the field's place in
+ * struct record_fields, NOWHERE if all sound records have the same bytes there.
+ */
+struct field { const char *name; uint16_t at, bytes, place; };
+
+enum { NOWHERE = 0xFFFF, HISTORY_SIZE = 478 };
+
+#define HELD(name, at, member) \
+    { name, at, sizeof ((struct record_fields *)0)->member, offsetof(struct record_fields, member) }
+#define FIXED(name, at, bytes) { name, at, bytes, NOWHERE }
+#define SLOT(p, at)                                                                                 \
+    HELD("port " #p " stage", (at), slot[p].stage),                                                 \
+    HELD("port " #p " pending transfer", (at) + 1, slot[p].pending),                                \
+    FIXED("port " #p " spare", (at) + 2, 6),                                                        \
+    HELD("port " #p " fill first", (at) + 8, slot[p].first),                                        \
+    HELD("port " #p " fill end", (at) + 16, slot[p].end)
+
+static const struct field fields[] = {
+    HELD("native size", 0, native), HELD("visible size", 8, visible), HELD("locked", 16, locked),
+    HELD("Segment Initialized flag", 17, flag), HELD("fill running", 18, filling), FIXED("spare at 19", 19, 1),
+    HELD("extended status code", 20, code), HELD("action", 22, action), HELD("function", 24, function),
+    HELD("read timer", 26, read_timer), HELD("write timer", 28, write_timer),
+    HELD("feature 1", 30, feature1), HELD("feature 2", 32, feature2),
+    HELD("feature 1 kept", 34, kept1), HELD("feature 2 kept", 35, kept2), HELD("feature 3 kept", 36, kept3),
+    FIXED("spare at 37", 37, 1), HELD("minutes", 38, minutes), HELD("temperature now", 40, now),
+    HELD("cycle maximum", 41, cycle), HELD("life maximum", 42, life), FIXED("spare at 43", 43, 5),
+    HELD("fill first", 48, first), HELD("fill next", 56, next), HELD("fill end", 64, end),
+    SLOT(0, 72), SLOT(1, 96), SLOT(2, 120), SLOT(3, 144),
+    FIXED("spare at 168", 168, 344),
+    FIXED("table format", 512, 2), FIXED("table period", 514, 2), HELD("interval (feature 3)", 516, interval),
+    FIXED("table limits", 518, 4), FIXED("table zeros", 522, 20), FIXED("history size", 542, 2),
+    HELD("history index", 544, index), HELD("history", 546, history)
+};
+
+#define FIELD_COUNT (sizeof fields / sizeof fields[0])
+
+/* The archive is for x86-64, where numbers have their low byte first in memory too. */
 
 void decode_record(struct record_fields *f, const uint8_t *record)
 {
-    f->native = get64(record);
-    f->visible = get64(record + 8);
-    f->locked = record[16];
-    f->flag = record[17];
-    f->filling = record[18];
-    f->code = get16(record + 20);
-    f->action = get16(record + 22);
-    f->function = get16(record + 24);
-    f->read_timer = get16(record + 26);
-    f->write_timer = get16(record + 28);
-    f->feature1 = get16(record + 30);
-    f->feature2 = get16(record + 32);
-    f->interval = get16(record + 516);
-    f->kept1 = record[34];
-    f->kept2 = record[35];
-    f->kept3 = record[36];
-    f->minutes = get16(record + 38);
-    f->now = record[40];
-    f->cycle = record[41];
-    f->life = record[42];
-    f->first = get64(record + 48);
-    f->next = get64(record + 56);
-    f->end = get64(record + 64);
-    for (int p = 0; p < 4; p++) {
-        const uint8_t *slot = record + SLOTS_AT + SLOT_SIZE * p;
-
-        f->slot[p].stage = slot[0];
-        f->slot[p].pending = slot[1];
-        f->slot[p].first = get64(slot + 8);
-        f->slot[p].end = get64(slot + 16);
-    }
-    f->index = get16(record + 544);
-    memcpy(f->history, record + HISTORY_AT, HISTORY_SIZE);
+    for (size_t i = 0; i < FIELD_COUNT; i++)
+        if (fields[i].place != NOWHERE)
+            memcpy((uint8_t *)f + fields[i].place, record + fields[i].at, fields[i].bytes);
 }
 
-/* The table's bytes, which a record and an entry share. */
-static void encode_table(uint8_t *table, uint16_t interval, uint16_t index, const uint8_t *history)
+/* The bytes that are the same in every table. */
+static void encode_table_constants(uint8_t *table)
 {
     static const uint8_t limits[4] = { 0x3C, 0x46, 0x05, 0xF6 };
 
     memset(table, 0, 34);
     put16(table, 2);
     put16(table + 2, 1);
-    put16(table + 4, interval);
     memcpy(table + 6, limits, 4);
     put16(table + 30, HISTORY_SIZE);
-    put16(table + 32, index);
-    memcpy(table + 34, history, HISTORY_SIZE);
 }
 
 void encode_record(uint8_t *record, const struct record_fields *f)
 {
     memset(record, 0, SCT_RECORD_BYTES);
-    put64(record, f->native);
-    put64(record + 8, f->visible);
-    record[16] = f->locked;
-    record[17] = f->flag;
-    record[18] = f->filling;
-    put16(record + 20, f->code);
-    put16(record + 22, f->action);
-    put16(record + 24, f->function);
-    put16(record + 26, f->read_timer);
-    put16(record + 28, f->write_timer);
-    put16(record + 30, f->feature1);
-    put16(record + 32, f->feature2);
-    record[34] = f->kept1;
-    record[35] = f->kept2;
-    record[36] = f->kept3;
-    put16(record + 38, f->minutes);
-    record[40] = f->now;
-    record[41] = f->cycle;
-    record[42] = f->life;
-    put64(record + 48, f->first);
-    put64(record + 56, f->next);
-    put64(record + 64, f->end);
-    for (int p = 0; p < 4; p++) {
-        uint8_t *slot = record + SLOTS_AT + SLOT_SIZE * p;
-
-        slot[0] = f->slot[p].stage;
-        slot[1] = f->slot[p].pending;
-        put64(slot + 8, f->slot[p].first);
-        put64(slot + 16, f->slot[p].end);
-    }
-    encode_table(record + TABLE_AT, f->interval, f->index, f->history);
+    encode_table_constants(record + 512);
+    for (size_t i = 0; i < FIELD_COUNT; i++)
+        if (fields[i].place != NOWHERE)
+            memcpy(record + fields[i].at, (const uint8_t *)f + fields[i].place, fields[i].bytes);
 }
 
 int pending_port(const struct record_fields *f)
@@ -106,31 +83,6 @@ int pending_port(const struct record_fields *f)
 }
 
 /* ---- Differences by name ------------------------------------------------- */
-
-struct field { const char *name; uint16_t at, bytes; };
-
-#define SLOT_FIELDS(p, at)                                                      \
-    { "port " #p " stage", (at), 1 }, { "port " #p " pending transfer", (at) + 1, 1 },    \
-    { "port " #p " spare", (at) + 2, 6 }, { "port " #p " fill first", (at) + 8, 8 },      \
-    { "port " #p " fill end", (at) + 16, 8 }
-
-static const struct field fields[] = {
-    { "native size", 0, 8 }, { "visible size", 8, 8 }, { "locked", 16, 1 },
-    { "Segment Initialized flag", 17, 1 }, { "fill running", 18, 1 }, { "spare at 19", 19, 1 },
-    { "extended status code", 20, 2 }, { "action", 22, 2 }, { "function", 24, 2 },
-    { "read timer", 26, 2 }, { "write timer", 28, 2 }, { "feature 1", 30, 2 }, { "feature 2", 32, 2 },
-    { "feature 1 kept", 34, 1 }, { "feature 2 kept", 35, 1 }, { "feature 3 kept", 36, 1 },
-    { "spare at 37", 37, 1 }, { "minutes", 38, 2 }, { "temperature now", 40, 1 },
-    { "cycle maximum", 41, 1 }, { "life maximum", 42, 1 }, { "spare at 43", 43, 5 },
-    { "fill first", 48, 8 }, { "fill next", 56, 8 }, { "fill end", 64, 8 },
-    SLOT_FIELDS(0, 72), SLOT_FIELDS(1, 96), SLOT_FIELDS(2, 120), SLOT_FIELDS(3, 144),
-    { "spare at 168", 168, 344 },
-    { "table format", 512, 2 }, { "table period", 514, 2 }, { "interval (feature 3)", 516, 2 },
-    { "table limits", 518, 4 }, { "table zeros", 522, 20 }, { "history size", 542, 2 },
-    { "history index", 544, 2 }, { "history", 546, 478 }
-};
-
-#define FIELD_COUNT (sizeof fields / sizeof fields[0])
 
 const char *field_at(size_t offset)
 {
@@ -309,7 +261,6 @@ void random_entry(struct random *r, uint8_t *image, uint32_t number, uint64_t na
 {
     uint8_t *body = image + (size_t)SCT_ENTRY_BYTES * (number - 1);
     uint8_t *trailer = body + 544;
-    uint8_t history[HISTORY_SIZE];
     uint16_t interval = random_interval(r);
 
     memset(body, 0, SCT_ENTRY_BYTES);
@@ -321,8 +272,10 @@ void random_entry(struct random *r, uint8_t *image, uint32_t number, uint64_t na
     put16(body + 20, (uint16_t)between(r, 1, 2));
     put16(body + 22, interval);
     body[24] = (uint8_t)below(r, 8);
-    random_history(r, history);
-    encode_table(body + 32, interval, random_index(r), history);
+    encode_table_constants(body + 32);
+    random_history(r, body + 66);
+    put16(body + 36, interval);
+    put16(body + 64, random_index(r));
     put32(trailer, 544);
     put32(trailer + 4, number == 1 ? 0xFFFFFFFFu : (uint32_t)(SCT_ENTRY_BYTES * (number - 1) - 16));
     put32(trailer + 8, number);

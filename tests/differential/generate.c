@@ -25,6 +25,21 @@ static struct step *add(struct list *l, enum entry entry)
     return step;
 }
 
+/* Gives the step a used length of its own instead of that of the moment. */
+static void set_used(struct step *step, uint64_t used)
+{
+    step->used_now = false;
+    step->used = used;
+}
+
+static void add_edit(struct list *l, enum entry entry, size_t offset, uint8_t value)
+{
+    struct step *step = add(l, entry);
+
+    step->offset = offset;
+    step->value = value;
+}
+
 static void fields_now(const struct list *l, struct record_fields *f)
 {
     decode_record(f, l->pair->record);
@@ -61,6 +76,11 @@ static uint16_t odd_word(struct random *r)
     };
 
     return once_in(r, 8) ? (uint16_t)random64(r) : PICK(r, words);
+}
+
+static uint8_t one_bit_off(struct random *r, uint8_t byte)
+{
+    return (uint8_t)(byte ^ (1u << below(r, 8)));
 }
 
 /* Mostly the word meant, now and then another. */
@@ -240,7 +260,7 @@ static void spoil(struct random *r, uint8_t *mailbox)
 {
     size_t at = (size_t)(once_in(r, 2) ? below(r, R_SECTOR) : R_SECTOR + below(r, 24));
 
-    mailbox[at] ^= (uint8_t)(1u << below(r, 8));
+    mailbox[at] = one_bit_off(r, mailbox[at]);
 }
 
 static void any_request(struct list *l, uint8_t *mailbox)
@@ -426,7 +446,7 @@ static void plan_power_on(struct list *l)
     struct step *step = add(l, POWER_ON);
 
     if (once_in(r, 3))
-        step->used_now = false, step->used = 0;
+        set_used(step, 0);
     if (once_in(r, 3))
         step->length[IMAGE] = (size_t)l->pair->used;
     if (step->length[IMAGE] == 0)
@@ -460,19 +480,14 @@ static void plan_damage(struct list *l)
     struct random *r = &l->random;
     uint64_t used = l->pair->used;
     size_t offset = (size_t)below(r, used == 0 ? SCT_ENTRY_BYTES : used);
-    struct step *step = add(l, EDIT_IMAGE);
 
     if (once_in(r, 2) && used != 0)     /* not in the history, which may hold anything */
         offset = offset / SCT_ENTRY_BYTES * SCT_ENTRY_BYTES + (once_in(r, 2) ? below(r, 66) : between(r, 540, 559));
-    step->offset = offset;
-    step->value = once_in(r, 2) ? PICK(r, values) : (uint8_t)(l->pair->image[offset] ^ (1u << below(r, 8)));
+    add_edit(l, EDIT_IMAGE, offset, once_in(r, 2) ? PICK(r, values) : one_bit_off(r, l->pair->image[offset]));
     add(l, POWER_ON);
     add(l, SAVE);
-    if (once_in(r, 2)) {
-        step = add(l, EDIT_IMAGE);
-        step->offset = offset;
-        step->value = l->pair->image[offset];
-    }
+    if (once_in(r, 2))
+        add_edit(l, EDIT_IMAGE, offset, l->pair->image[offset]);
 }
 
 static void plan_used(struct list *l)
@@ -485,8 +500,7 @@ static void plan_used(struct list *l)
     };
     struct step *step = add(l, once_in(r, 2) ? SAVE : POWER_ON);
 
-    step->used_now = false;
-    step->used = PICK(r, lengths);
+    set_used(step, PICK(r, lengths));
     step->length[IMAGE] = once_in(r, 2) ? IMAGE_ROOM : room_for(r, used);
     if (once_in(r, 3))
         add(l, USE_LENGTH)->used = once_in(r, 2) || used < 560 ? 0 : used - 560;
@@ -500,13 +514,12 @@ static void plan_other_disk(struct list *l)
 
     step->length[DISK] = (size_t)(any_native(l) * SCT_SECTOR_BYTES);
     if (once_in(r, 2))
-        step->used_now = false, step->used = 0;
+        set_used(step, 0);
     plan_exchange(l);
     add(l, SAVE)->length[IMAGE] = room_for(r, l->pair->used);
     step = add(l, POWER_ON);
-    step->used_now = once_in(r, 2);
-    if (!step->used_now)
-        step->used = 0;
+    if (!once_in(r, 2))
+        set_used(step, 0);
 }
 
 /* ---- Plans: records ------------------------------------------------------------ */
@@ -541,18 +554,13 @@ static void plan_edit_record(struct list *l)
     struct random *r = &l->random;
     size_t offset = (size_t)(once_in(r, 4) ? below(r, SCT_RECORD_BYTES)
                            : once_in(r, 4) ? between(r, 512, 550) : below(r, 170));
-    struct step *step = add(l, EDIT_RECORD);
 
-    step->offset = offset;
-    step->value = once_in(r, 2) ? PICK(r, values) : (uint8_t)(l->pair->record[offset] ^ (1u << below(r, 8)));
+    add_edit(l, EDIT_RECORD, offset, once_in(r, 2) ? PICK(r, values) : one_bit_off(r, l->pair->record[offset]));
     for (int i = 0; i < 2; i++)
         plan_exchange(l);
     plan_work(l);
-    if (once_in(r, 2)) {
-        step = add(l, EDIT_RECORD);
-        step->offset = offset;
-        step->value = l->pair->record[offset];
-    }
+    if (once_in(r, 2))
+        add_edit(l, EDIT_RECORD, offset, l->pair->record[offset]);
 }
 
 /* ---- Plans: scenarios ------------------------------------------------------------ */
@@ -586,18 +594,26 @@ static void plan_disturbance(struct list *l)
     }
 }
 
-/* A fill is started, worked on, disturbed, worked on, and looked at. */
-static void plan_fill(struct list *l)
+/* A fill by this function is asked for, on the port that is returned. */
+static uint32_t ask_fill(struct list *l, uint16_t function)
 {
-    struct random *r = &l->random;
     uint8_t mailbox[SCT_MAILBOX_BYTES];
     struct record_fields f;
     uint32_t port = free_port(l);
 
     fields_now(l, &f);
-    any_fill(r, &f, mailbox);
-    put16(mailbox + R_SECTOR + 2, 1);
+    any_fill(&l->random, &f, mailbox);
+    put16(mailbox + R_SECTOR + 2, function);
     exchange(l, port, mailbox);
+    return port;
+}
+
+/* A fill is started, worked on, disturbed, worked on, and looked at. */
+static void plan_fill(struct list *l)
+{
+    struct random *r = &l->random;
+    uint32_t port = ask_fill(l, 1);
+
     for (uint64_t i = below(r, 3); i > 0; i--)
         work_by(l, (uint32_t)between(r, 0, 3));
     status_by(l, port + 1);
@@ -648,8 +664,8 @@ static void plan_whole_fill(struct list *l)
     status_by(l, port);
 }
 
-/* The E1h that collects a transfer: now and then by a wrong port, or the wrong way. */
-static void collect(struct list *l, uint32_t port, bool write)
+/* An E1h that collects a transfer: now and then by a wrong port, or the wrong way. */
+static void collect_once(struct list *l, uint32_t port, bool write)
 {
     struct random *r = &l->random;
     uint8_t mailbox[SCT_MAILBOX_BYTES];
@@ -663,22 +679,22 @@ static void collect(struct list *l, uint32_t port, bool write)
     exchange(l, port, mailbox);
 }
 
+/* A transfer is collected, and sometimes again, when nothing is pending any more. */
+static void collect(struct list *l, uint32_t port, bool write)
+{
+    collect_once(l, port, write);
+    if (once_in(&l->random, 3))
+        collect_once(l, port, write);
+}
+
 static void plan_sector_fill(struct list *l)
 {
     struct random *r = &l->random;
-    uint8_t mailbox[SCT_MAILBOX_BYTES];
-    struct record_fields f;
-    uint32_t port = free_port(l);
+    uint32_t port = ask_fill(l, 2);
 
-    fields_now(l, &f);
-    any_fill(r, &f, mailbox);
-    put16(mailbox + R_SECTOR + 2, 2);
-    exchange(l, port, mailbox);
     if (once_in(r, 2))
         plan_disturbance(l);
     collect(l, port, true);
-    if (once_in(r, 3))
-        collect(l, port, true);
     work_by(l, (uint32_t)between(r, 0, 4));
     status_by(l, port);
     if (once_in(r, 2))
@@ -697,8 +713,6 @@ static void plan_table(struct list *l)
     if (once_in(r, 3))
         plan_disturbance(l);
     collect(l, port, false);
-    if (once_in(r, 3))
-        collect(l, port, false);
 }
 
 /* An interval is set, a history grows, is saved, and comes back or does not. */

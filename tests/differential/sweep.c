@@ -23,6 +23,13 @@ static bool sweep_step(struct pair *pair, struct statistics *s, const struct ste
     return true;
 }
 
+/* The step as another entry, with the same numbers and lengths. */
+static bool sweep_as(struct pair *pair, struct statistics *s, struct step *step, enum entry entry)
+{
+    step->entry = entry;
+    return sweep_step(pair, s, step);
+}
+
 /* ---- The state from which each trial starts ---------------------------------- */
 
 struct start {
@@ -254,11 +261,7 @@ static bool try_used_lengths(struct pair *pair, struct statistics *s)
         step.used = lengths[i];
         for (size_t room = 0; room < 3; room++) {
             step.length[IMAGE] = room == 0 ? (size_t)right : room == 1 ? SCT_IMAGE_LIMIT : IMAGE_ROOM;
-            step.entry = POWER_ON;
-            if (!sweep_step(pair, s, &step))
-                return false;
-            step.entry = SAVE;
-            if (!sweep_step(pair, s, &step))
+            if (!sweep_as(pair, s, &step, POWER_ON) || !sweep_as(pair, s, &step, SAVE))
                 return false;
             pair->used = right;
         }
@@ -277,11 +280,8 @@ bool sweep_chain(struct pair *pair, struct statistics *s)
         struct step step = plain_step(pair, SAMPLE);
 
         step.reading = random_reading(&r);
-        if (!sweep_step(pair, s, &step))
-            return false;
-        step.entry = SAVE;
         step.length[IMAGE] = IMAGE_ROOM;
-        if (!sweep_step(pair, s, &step))
+        if (!sweep_step(pair, s, &step) || !sweep_as(pair, s, &step, SAVE))
             return false;
         step = plain_step(pair, POWER_ON);
         if (!sweep_step(pair, s, &step))
@@ -321,13 +321,7 @@ static bool sweep_exchange(struct pair *pair, struct statistics *s, const uint8_
     struct step step = plain_step(pair, TAKE);
 
     memcpy(step.mailbox, mailbox, SCT_MAILBOX_BYTES);
-    if (!sweep_step(pair, s, &step))
-        return false;
-    step.entry = SERVE;
-    if (!sweep_step(pair, s, &step))
-        return false;
-    step.entry = GIVE;
-    return sweep_step(pair, s, &step);
+    return sweep_step(pair, s, &step) && sweep_as(pair, s, &step, SERVE) && sweep_as(pair, s, &step, GIVE);
 }
 
 /* One sector is read and written at every address. */
@@ -367,12 +361,14 @@ static bool try_fills(struct pair *pair, struct statistics *s, uint64_t visible)
 
     for (unsigned i = 0; i < count; i++) {
         uint64_t a = numbers[i];
-        uint64_t left = visible - 1 - a;    /* the last count allowed, where Start is */
+        uint64_t left = visible - 1 - a;    /* the last Count allowed, where this Start is */
+        const struct { uint64_t start, count; } fills[] = {
+            { a, 0 }, { a, left }, { a, left + 1 }, { a, 0 - a }, { a, 1 - a }, { 0, a }, { 1, a }, { visible - 1, a }
+        };
 
-        if (!try_fill(pair, s, a, 0) || !try_fill(pair, s, a, left) || !try_fill(pair, s, a, left + 1) ||
-            !try_fill(pair, s, a, 0 - a) || !try_fill(pair, s, a, 1 - a) ||
-            !try_fill(pair, s, 0, a) || !try_fill(pair, s, 1, a) || !try_fill(pair, s, visible - 1, a))
-            return false;
+        for (size_t k = 0; k < sizeof fills / sizeof fills[0]; k++)
+            if (!try_fill(pair, s, fills[k].start, fills[k].count))
+                return false;
     }
     return true;
 }

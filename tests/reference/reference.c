@@ -95,6 +95,23 @@ static inline void store64(uint8_t *at, uint64_t value)
     store32(at + 4, (uint32_t)(value >> 32));
 }
 
+/* Numbers of 1, 2 and 8 bytes, the widths of the record's fields. */
+
+static inline uint64_t load(const uint8_t *at, size_t bytes)
+{
+    return bytes == 1 ? at[0] : bytes == 2 ? load16(at) : load64(at);
+}
+
+static inline void store(uint8_t *at, size_t bytes, uint64_t value)
+{
+    if (bytes == 1)
+        at[0] = (uint8_t)value;
+    else if (bytes == 2)
+        store16(at, (uint16_t)value);
+    else
+        store64(at, value);
+}
+
 /* Eight bytes at a time, as the record has hundreds of spare bytes. */
 static bool all_zero(const uint8_t *at, size_t count)
 {
@@ -182,83 +199,46 @@ enum {
 #define SLOT(area, number)  ((area) + (size_t)SCT_MAILBOX_BYTES * (number))
 #define FILL_SECTOR(area)   ((area) + (size_t)SCT_MAILBOX_BYTES * SCT_PORTS)
 
-static void read_port(struct port *port, const uint8_t *at)
-{
-    port->stage = at[PORT_STAGE];
-    port->pending = at[PORT_PENDING];
-    port->first = load64(at + PORT_FIRST);
-    port->end = load64(at + PORT_END);
-}
+/*
+ * Each number that record and struct both have: its offset in the record, its
+ * name in the struct, whose width is the record's. This is a list for the
+ * preprocessor because a table, walked at each call, doubles the cost of an
+ * exchange, and the bench compares that cost with the archive's.
+ */
+#define EACH_FIELD(FIELD)                                                                           \
+    FIELD(AT_NATIVE, native) FIELD(AT_VISIBLE, visible)                                             \
+    FIELD(AT_LOCKED, locked) FIELD(AT_INITIALIZED, initialized) FIELD(AT_FILLING, filling)          \
+    FIELD(AT_CODE, code) FIELD(AT_ACTION, action) FIELD(AT_FUNCTION, function)                      \
+    FIELD(AT_TIMERS, timer[READ_TIMER]) FIELD(AT_TIMERS + 2, timer[WRITE_TIMER])                    \
+    FIELD(AT_STATES, state[WRITE_CACHE]) FIELD(AT_STATES + 2, state[REORDERING])                    \
+    FIELD(AT_TABLE + TABLE_INTERVAL, state[LOG_INTERVAL])                                           \
+    FIELD(AT_PERSISTENT, persistent[WRITE_CACHE]) FIELD(AT_PERSISTENT + 1, persistent[REORDERING])  \
+    FIELD(AT_PERSISTENT + 2, persistent[LOG_INTERVAL])                                              \
+    FIELD(AT_MINUTES, minutes)                                                                      \
+    FIELD(AT_NOW, now) FIELD(AT_CYCLE, cycle_maximum) FIELD(AT_LIFE, life_maximum)                  \
+    FIELD(AT_FIRST, first) FIELD(AT_NEXT, next) FIELD(AT_END, end)                                  \
+    FIELD(AT_TABLE + TABLE_INDEX, index)                                                            \
+    EACH_PORT_FIELD(FIELD, 0) EACH_PORT_FIELD(FIELD, 1) EACH_PORT_FIELD(FIELD, 2) EACH_PORT_FIELD(FIELD, 3)
+
+#define EACH_PORT_FIELD(FIELD, p)                                                                   \
+    FIELD(AT_PORTS + PORT_BYTES * (p) + PORT_STAGE, port[p].stage)                                  \
+    FIELD(AT_PORTS + PORT_BYTES * (p) + PORT_PENDING, port[p].pending)                              \
+    FIELD(AT_PORTS + PORT_BYTES * (p) + PORT_FIRST, port[p].first)                                  \
+    FIELD(AT_PORTS + PORT_BYTES * (p) + PORT_END, port[p].end)
 
 static void read_device(struct device *d, const uint8_t *record)
 {
-    const uint8_t *table = record + AT_TABLE;
-
-    d->native = load64(record + AT_NATIVE);
-    d->visible = load64(record + AT_VISIBLE);
-    d->locked = record[AT_LOCKED];
-    d->initialized = record[AT_INITIALIZED];
-    d->filling = record[AT_FILLING];
-    d->first = load64(record + AT_FIRST);
-    d->next = load64(record + AT_NEXT);
-    d->end = load64(record + AT_END);
-    d->code = load16(record + AT_CODE);
-    d->action = load16(record + AT_ACTION);
-    d->function = load16(record + AT_FUNCTION);
-    d->timer[READ_TIMER] = load16(record + AT_TIMERS);
-    d->timer[WRITE_TIMER] = load16(record + AT_TIMERS + 2);
-    d->state[WRITE_CACHE] = load16(record + AT_STATES);
-    d->state[REORDERING] = load16(record + AT_STATES + 2);
-    d->state[LOG_INTERVAL] = load16(table + TABLE_INTERVAL);
-    for (int f = 0; f < FEATURES; f++)
-        d->persistent[f] = record[AT_PERSISTENT + f];
-    d->minutes = load16(record + AT_MINUTES);
-    d->now = record[AT_NOW];
-    d->cycle_maximum = record[AT_CYCLE];
-    d->life_maximum = record[AT_LIFE];
-    d->index = load16(table + TABLE_INDEX);
-    for (unsigned p = 0; p < SCT_PORTS; p++)
-        read_port(&d->port[p], record + AT_PORTS + PORT_BYTES * p);
-}
-
-static void write_port(uint8_t *at, const struct port *port)
-{
-    at[PORT_STAGE] = port->stage;
-    at[PORT_PENDING] = port->pending;
-    store64(at + PORT_FIRST, port->first);
-    store64(at + PORT_END, port->end);
+#define READ(at, member) d->member = load(record + (at), sizeof d->member);
+    EACH_FIELD(READ)
+#undef READ
 }
 
 /* Writes the fields alone: spare bytes and the rest of the table stay. */
 static void write_device(uint8_t *record, const struct device *d)
 {
-    uint8_t *table = record + AT_TABLE;
-
-    store64(record + AT_NATIVE, d->native);
-    store64(record + AT_VISIBLE, d->visible);
-    record[AT_LOCKED] = d->locked;
-    record[AT_INITIALIZED] = d->initialized;
-    record[AT_FILLING] = d->filling;
-    store64(record + AT_FIRST, d->first);
-    store64(record + AT_NEXT, d->next);
-    store64(record + AT_END, d->end);
-    store16(record + AT_CODE, d->code);
-    store16(record + AT_ACTION, d->action);
-    store16(record + AT_FUNCTION, d->function);
-    store16(record + AT_TIMERS, d->timer[READ_TIMER]);
-    store16(record + AT_TIMERS + 2, d->timer[WRITE_TIMER]);
-    store16(record + AT_STATES, d->state[WRITE_CACHE]);
-    store16(record + AT_STATES + 2, d->state[REORDERING]);
-    store16(table + TABLE_INTERVAL, d->state[LOG_INTERVAL]);
-    for (int f = 0; f < FEATURES; f++)
-        record[AT_PERSISTENT + f] = d->persistent[f];
-    store16(record + AT_MINUTES, d->minutes);
-    record[AT_NOW] = d->now;
-    record[AT_CYCLE] = d->cycle_maximum;
-    record[AT_LIFE] = d->life_maximum;
-    store16(table + TABLE_INDEX, d->index);
-    for (unsigned p = 0; p < SCT_PORTS; p++)
-        write_port(record + AT_PORTS + PORT_BYTES * p, &d->port[p]);
+#define WRITE(at, member) store(record + (at), sizeof d->member, d->member);
+    EACH_FIELD(WRITE)
+#undef WRITE
 }
 
 /* ======================================================================== */
