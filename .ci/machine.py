@@ -1,4 +1,4 @@
-"""What the checks beside this file read of a built archive: its functions as instructions with their operands."""
+"""What the checks in this directory read of a built archive: its functions as instructions with their operands."""
 import os
 import re
 import subprocess
@@ -35,7 +35,7 @@ class Number(NamedTuple):
 
 
 class Memory(NamedTuple):
-    size: int           # in bytes; 0 where the instruction does not say (lea)
+    size: int           # in bytes; 0 where the instruction does not state it (lea)
     base: str           # whole registers, "" where there is none
     index: str
     scale: int
@@ -53,7 +53,7 @@ class Instruction(NamedTuple):
     name: str
     operands: list
     target: Target      # of a jump or call, else None
-    after: int          # the address behind it
+    after: int          # the address of the next one
 
 
 class Routine(NamedTuple):
@@ -80,7 +80,7 @@ def number(text):
 
 
 def memory(size, text):
-    """The operand between the brackets of [rax+rcx*8-0x10]; rip stands for a constant of the archive."""
+    """The operand between the brackets of [rax+rcx*8-0x10]; rip means a constant of the archive."""
     base, index, scale, shift = "", "", 1, 0
     for sign, term in re.findall(r"([+-]?)([^+-]+)", text):
         register, star, factor = term.partition("*")
@@ -118,7 +118,7 @@ def target(line, rest):
 
 
 def instruction(line):
-    """An instruction, still without the address behind it, or None where the line is none."""
+    """An instruction, still without the address of the next one, or None where the line is none."""
     match = re.fullmatch(r"\s*([0-9a-f]+):\t([^\t#]*?)\s*(?:#[^\t]*)?(?:\t.*)?", line)
     if match is None:
         return None
@@ -146,7 +146,7 @@ def routines(archive):
 
 
 def with_ends(routine):
-    """The routine with the address behind each instruction."""
+    """The routine with the address of the next instruction in each."""
     places = [*routine.code, -1]
     code = {at: routine.code[at]._replace(after=after) for at, after in zip(places, places[1:])}
     return routine._replace(code=code)

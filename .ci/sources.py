@@ -1,4 +1,4 @@
-"""What the checks beside this file read: prototypes of a C header, functions of Rattle files."""
+"""What the checks in this directory read: prototypes of a C header, functions of Rattle files."""
 import re
 import sys
 from pathlib import Path
@@ -47,7 +47,7 @@ def run(check):
 
 
 def end_of_group(text, start):
-    """The place behind the bracket that closes the one at start."""
+    """The place after the bracket that closes the one at start."""
     closing = {"(": ")", "[": "]", "{": "}"}
     wanted = []
     for place in range(start, len(text)):
@@ -87,7 +87,7 @@ def c_words(text):
 
 
 def prototypes(path=HEADER):
-    """The prototypes of a header that has, beside them, only directives, enums and static inline functions."""
+    """The prototypes of a header that has, besides them, only directives, enums and static inline functions."""
     text = re.sub(r"/\*.*?\*/|//[^\n]*", blanked, path.read_text(encoding="utf-8"), flags=re.S)
     text = re.sub(r"^[ \t]*#(?:[^\n]*\\\n)*[^\n]*", blanked, text, flags=re.M)
     text, opened = re.subn(r'extern\s+"C"\s*\{', "", text)

@@ -1,13 +1,13 @@
 /*
- * bench.c - what the entries cost, beside the reference built by the same
+ * bench.c - what the entries cost, compared with the reference built by the C
  * compiler. Both are measured in turn within each round, so that a change of
- * the machine's pace meets both; the median of the rounds is printed.
+ * the machine's speed affects both; the median of the rounds is printed.
  *
  *   bench [rounds]      31 rounds if none are given
  *
- * "Exchange" is take, serve and give in a row. The reference opens the record
- * into a struct, decides, and writes it back: an honest, plain C program. In
- * one row memcpy stands in the reference's column.
+ * "Exchange" is take, serve and give in a row. The reference is a plain C
+ * program that opens the record into a struct, decides, and writes it back. In
+ * one row the reference's column has memcpy.
  */
 #define _POSIX_C_SOURCE 200809L
 
@@ -161,12 +161,12 @@ static double run_copies(unsigned times)
     for (unsigned i = 0; i < times; i++) {
         for (size_t k = 0; k < SECTORS; k++)
             memcpy(disk + k * SCT_SECTOR_BYTES, sector, SCT_SECTOR_BYTES);
-        __asm__ volatile("" : : : "memory");    /* they are not for nothing */
+        __asm__ volatile("" : : : "memory");    /* the copies must not be optimized away */
     }
     return (nanoseconds_now() - from) / times / SECTORS;
 }
 
-/* The archive's work beside memcpy of 512 bytes, which takes the reference's place. */
+/* The archive's work compared with memcpy of 512 bytes, in the reference's place. */
 static double run_work_or_copies(const struct implementation *code, unsigned times)
 {
     return code == &archive ? run_work_all(code, times) : run_copies(times);
@@ -218,11 +218,11 @@ static double median(double *values, unsigned count)
 
 static void run_rounds(unsigned rounds)
 {
-    for (unsigned m = 0; m < MEASURES; m++)     /* to get warm */
+    for (unsigned m = 0; m < MEASURES; m++)     /* warms the caches */
         measures[m].run(m % 2 ? &archive : &reference, 1);
     for (unsigned r = 0; r < rounds; r++) {
         for (unsigned m = 0; m < MEASURES; m++) {
-            unsigned first = r % 2;             /* who comes first changes */
+            unsigned first = r % 2;             /* the two take turns in coming first */
 
             for (unsigned i = 0; i < 2; i++) {
                 unsigned side = i ^ first;

@@ -89,7 +89,7 @@ const char *field_at(size_t offset)
     for (size_t i = 0; i < FIELD_COUNT; i++)
         if (fields[i].at <= offset && offset < (size_t)fields[i].at + fields[i].bytes)
             return fields[i].name;
-    return "behind the record";
+    return "after the record";
 }
 
 static void print_field(FILE *out, const struct field *field, const char *name, const uint8_t *record,
@@ -108,11 +108,11 @@ unsigned print_record_difference(FILE *out, const char *name_a, const uint8_t *a
 
     for (size_t i = 0; i < FIELD_COUNT; i++) {
         size_t offset = fields[i].at;
-        size_t behind = offset + fields[i].bytes;
+        size_t end = offset + fields[i].bytes;
 
-        while (offset < behind && a[offset] == b[offset])
+        while (offset < end && a[offset] == b[offset])
             offset++;
-        if (offset == behind)
+        if (offset == end)
             continue;
         fprintf(out, "  record, %s:\n", fields[i].name);
         print_field(out, &fields[i], name_a, a, offset);
@@ -220,7 +220,7 @@ void random_record(struct random *r, uint8_t *record, uint64_t native)
     encode_record(record, &f);
 }
 
-/* A number that some rule compares sector numbers with, or one beside it. */
+/* A number that some rule compares sector numbers with, or one next to it. */
 static uint64_t limit_of_sectors(struct random *r, const struct record_fields *f)
 {
     const uint64_t limits[] = { 0, f->native, f->visible, f->first, f->next, f->end, SCT_NATIVE_LIMIT, 1u << 24 };

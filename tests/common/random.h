@@ -53,7 +53,7 @@ static inline void random_bytes(struct random *r, uint8_t *at, size_t count)
     }
 }
 
-/* A stream of its own for each list of a seed. */
+/* Each list of a seed has its own stream. */
 static inline struct random random_for(uint64_t seed, uint64_t index)
 {
     struct random r = { mix64(seed ^ 0x5C7D15C0u) ^ mix64(index + 0x0123456789ABCDEFu) };

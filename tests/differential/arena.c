@@ -34,7 +34,7 @@ static size_t before(const struct arena *arena)
     return room < GUARD_BYTES ? room : GUARD_BYTES;
 }
 
-static size_t behind(const struct arena *arena)
+static size_t after(const struct arena *arena)
 {
     size_t room = arena->capacity - (size_t)(arena->buffer - arena->base) - arena->length;
 
@@ -51,7 +51,7 @@ uint8_t *arena_place(struct arena *arena, size_t length, enum placement placemen
     arena->length = length;
     for (size_t i = 0; i < before(arena); i++)
         arena->buffer[-1 - (ptrdiff_t)i] = GUARD;
-    for (size_t i = 0; i < behind(arena); i++)
+    for (size_t i = 0; i < after(arena); i++)
         arena->buffer[length + i] = GUARD;
     return arena->buffer;
 }
@@ -61,7 +61,7 @@ bool arena_guards_hold(const struct arena *arena)
     for (size_t i = 0; i < before(arena); i++)
         if (arena->buffer[-1 - (ptrdiff_t)i] != GUARD)
             return false;
-    for (size_t i = 0; i < behind(arena); i++)
+    for (size_t i = 0; i < after(arena); i++)
         if (arena->buffer[arena->length + i] != GUARD)
             return false;
     return true;

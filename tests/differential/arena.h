@@ -1,10 +1,10 @@
 /*
  * arena.h - buffers with guards.
  *
- * An arena is a run of pages with a page before and behind it that nobody may
- * touch. A buffer stands in it in one of three places: in the middle at any
+ * An arena is a run of pages with a page before and after it that nobody may
+ * touch. A buffer is in one of three places in it: in the middle at any
  * alignment, at the very end (one byte too far faults), or at the very start.
- * The bytes beside a buffer are guard bytes, and are checked.
+ * The bytes around a buffer are guard bytes, and are checked.
  */
 #ifndef ARENA_H
 #define ARENA_H
@@ -30,7 +30,7 @@ void arena_make(struct arena *arena, size_t largest);
 /* A buffer of `length` bytes; `shift` (0 to 15) is the alignment of a loose one. */
 uint8_t *arena_place(struct arena *arena, size_t length, enum placement placement, unsigned shift);
 
-/* The guard bytes beside the buffer are as they were when it was placed. */
+/* The guard bytes around the buffer are as they were when it was placed. */
 bool arena_guards_hold(const struct arena *arena);
 
 #endif

@@ -33,7 +33,7 @@ struct options {
 
 enum { SHORT_LISTS = 40000, LONG_LISTS = 500000, LIST_TIME_LIMIT = 120 };
 
-/* ---- Where we are, in case that a call does not come back -------------------- */
+/* ---- Where we are, in case a call does not return ----------------------------- */
 
 static volatile uint64_t place_seed, place_list, place_step;    /* step 0: in the sweeps */
 
@@ -86,7 +86,8 @@ static void watch_signals(void)
 
 /* ---- Lists --------------------------------------------------------------------- */
 
-static void tell(const struct pair *pair, const struct step *step, uint64_t number, const struct outcome *outcome)
+static void print_outcome(const struct pair *pair, const struct step *step, uint64_t number,
+                          const struct outcome *outcome)
 {
     printf("%5llu  ", (unsigned long long)number);
     print_step(stdout, step, pair->sectors);
@@ -123,7 +124,7 @@ static bool run_list(struct pair *pair, struct statistics *s, const struct optio
             return false;
         }
         if (words)
-            tell(pair, &step, number, &outcome);
+            print_outcome(pair, &step, number, &outcome);
         list.last_answer = outcome.answer;
         s->steps++;
         statistics_add(s, &step, &outcome);

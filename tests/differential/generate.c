@@ -236,7 +236,7 @@ static void any_command(struct random *r, uint8_t *mailbox)
     mailbox[R_COMMAND] = once_in(r, 3) ? (uint8_t)random64(r) : PICK(r, commands);
 }
 
-/* Whatever no rule reads may hold anything. */
+/* Random bytes where no rule reads: they must not matter. */
 static void dress(struct random *r, uint8_t *mailbox)
 {
     static const uint8_t ignored[3][7] = {
@@ -338,7 +338,7 @@ static void plan_exchange(struct list *l)
     exchange(l, free_port(l), mailbox);
 }
 
-/* Empties a slot that was left held or answered. */
+/* Empties the slots that were left held or answered. */
 static void plan_settle(struct list *l)
 {
     struct record_fields f;
@@ -579,7 +579,7 @@ static void work_by(struct list *l, uint32_t n)
     add(l, WORK)->n = n;
 }
 
-/* What may befall a fill or a pending transfer. */
+/* What may happen to a fill or a pending transfer. */
 static void plan_disturbance(struct list *l)
 {
     switch (below(&l->random, 9)) {
@@ -892,7 +892,7 @@ void list_next(struct list *list, struct step *step)
     struct random *r = &list->random;
 
     if (list->last_answer == SCT_BAD_RECORD && list->style != RECORDS && once_in(r, 3)) {
-        list->count = 0;        /* the record is past use: start again */
+        list->count = 0;        /* the record is unsound: start again */
         plan_power_on(list);
     }
     while (list->count == 0)

@@ -1,9 +1,8 @@
 /*
  * generate.h - random lists of steps.
  *
- * A list is made while it runs: when it has no step left it looks at the
- * record that both sides left, and plans a few more. Seed and index give the
- * list.
+ * A list is made while it runs: when no step is left, the next few are planned
+ * from the record that both sides left. Seed and index determine the list.
  */
 #ifndef GENERATE_H
 #define GENERATE_H
@@ -29,7 +28,7 @@ struct list {
 /* Resets the pair for list `index` of `seed`. */
 void list_begin(struct list *list, struct pair *pair, uint64_t seed, uint64_t index);
 
-/* The next step. Tell it the answer of the last one in last_answer. */
+/* The next step. The caller sets last_answer to the answer of the one before. */
 void list_next(struct list *list, struct step *step);
 
 #endif

@@ -16,9 +16,9 @@ enum { OTHER_DISK_ROOM = (SCT_NATIVE_LIMIT + 2) * SCT_SECTOR_BYTES, OTHER_DISK_S
 
 enum { LARGE_DISK = 4096, MOST_PUT_OFF = 64 };
 
-enum { FILLER = 0xEE };     /* behind the known bytes of a buffer that is too long */
+enum { FILLER = 0xEE };     /* after the known bytes of a buffer that is too long */
 
-/* What is passed in this step, to both sides alike. The disk stands elsewhere. */
+/* What is passed in this step, to both sides alike. The disk is in struct pair. */
 static uint8_t before[DISK][IMAGE_ROOM];
 
 /* ---- Making and resetting ------------------------------------------------ */
@@ -268,7 +268,7 @@ static bool other_disk_agrees(const struct pair *pair, const struct step *step)
 
 /*
  * Compares both disks; then the bytes from `open` on, which may not have
- * changed, with the third copy; and takes over the others.
+ * changed, with the third copy, into which the others are copied.
  */
 static bool disks_agree(struct pair *pair, size_t open)
 {
@@ -292,7 +292,7 @@ static size_t visible_bytes(const struct pair *pair)
     return (size_t)get64(pair->record + 8) * SCT_SECTOR_BYTES;
 }
 
-/* Where nothing was to be written all of the disk stays, else the hidden sectors. */
+/* Where nothing was to be written no sector may change, else no hidden one. */
 static bool disk_agrees(struct pair *pair, const struct step *step, uint32_t answer)
 {
     bool writes = answer == SCT_DONE && entry_may_change(step->entry, DISK);
@@ -303,7 +303,7 @@ static bool disk_agrees(struct pair *pair, const struct step *step, uint32_t ans
     return pair->put_off < MOST_PUT_OFF || disks_agree(pair, visible_bytes(pair));
 }
 
-/* After these steps V may be another. */
+/* After these steps V may have changed. */
 static bool may_change_visible(enum entry entry)
 {
     return entry == POWER_ON || entry == SET_VISIBLE || entry == NEW_RECORD || entry == EDIT_RECORD;
@@ -326,7 +326,7 @@ static bool guards_agree(const struct side *side, const struct step *step, bool 
 
         if (side->passed[b] == NULL || !entry_has(step->entry, b) || arena_guards_hold(arena))
             continue;
-        printf("  %s wrote beside its %s\n", side->code->name, buffer_name[b]);
+        printf("  %s wrote outside its %s\n", side->code->name, buffer_name[b]);
         hold = false;
     }
     return hold;
@@ -374,7 +374,7 @@ static void keep(struct pair *pair, const struct step *step)
     }
 }
 
-/* Another core writes the mailbox: whoever looks at it again finds this. */
+/* Another core writes the mailbox: a later look at it finds this. */
 static void scramble_mailboxes(const struct pair *pair, const struct step *step)
 {
     for (int s = 0; s < 2; s++)

@@ -1,12 +1,12 @@
 /*
  * pair.h - two implementations side by side.
  *
- * Each side has buffers of its own. The bytes that both left behind after the
- * last step are kept once, here; a step passes each side a copy of them, calls,
- * and compares everything. The disk is too large for that: each side keeps its
- * own, and a third copy tells what may not have changed. Of a large disk the
- * comparison is put off, for some steps at most, and never beyond a step that
- * may change V.
+ * Each side has its own buffers. The bytes that both sides left in the last
+ * step are kept once, here; a step passes each side a copy of them, calls, and
+ * compares everything. The disk is too large for that: each side keeps its
+ * own, and a third copy holds what may not have changed. The comparison of a
+ * large disk is put off for some steps, but never past a step that may change
+ * V.
  */
 #ifndef PAIR_H
 #define PAIR_H

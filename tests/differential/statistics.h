@@ -1,4 +1,4 @@
-/* statistics.h - what the run met, so that one can see that it met everything. */
+/* statistics.h - what the run has tried, so that one can see that it left nothing out. */
 #ifndef STATISTICS_H
 #define STATISTICS_H
 
@@ -8,7 +8,7 @@ enum { ANSWERS = 9, CODES = 0x13, OUTCOMES = CODES + 2 };
 
 struct statistics {
     uint64_t lists, steps, sweep_steps;
-    uint64_t answers[ENTRIES][ANSWERS + 1];     /* the last one: an answer that is none */
+    uint64_t answers[ENTRIES][ANSWERS + 1];     /* the last one: a number that is no answer */
     uint64_t requests[REQUEST_KINDS][OUTCOMES]; /* by code; then Error 10h; then good */
     uint64_t fills_finished, sectors_written, images_restored, entries_saved;
 };

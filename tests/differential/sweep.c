@@ -246,7 +246,7 @@ bool sweep_images(struct pair *pair, struct statistics *s, bool thorough)
 
 /* ---- Chains -------------------------------------------------------------------- */
 
-/* Used lengths beside the right one; the buffer is as long as they say or longer. */
+/* Used lengths other than the right one, in a buffer that is just long enough for the right one, and in longer ones. */
 static bool try_used_lengths(struct pair *pair, struct statistics *s)
 {
     uint64_t right = pair->used;

@@ -1,7 +1,8 @@
 /*
  * sweep.h - what is tried in full rather than at random: every byte of a
  * record, every byte of an image, every length of a chain, every bit of an
- * address on the largest disk, every mixture of wrong lengths. Each returns false at the first difference, and prints it.
+ * address on the largest disk, every mixture of wrong lengths. Each function
+ * prints the first difference and returns false.
  */
 #ifndef SWEEP_H
 #define SWEEP_H

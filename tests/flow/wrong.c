@@ -1,7 +1,7 @@
 /*
- * wrong.c - take and give, reduced to what they do with a mailbox, to try
- * .ci/check-flow: WRONG=0 is right, each other number is a wrong program,
- * and the check must say of it
+ * wrong.c - take and give, reduced to what they do with a mailbox, to test
+ * .ci/check-flow: WRONG=0 is a right program, each other number a wrong one,
+ * which the check must refuse with these words:
  *
  *   1: mailbox bytes used
  *   2: a called function uses the mailbox

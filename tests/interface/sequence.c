@@ -2,10 +2,10 @@
  * sequence.c - the interface at work, from power-on to power-on.
  *
  * The owner hides the end of a new disk. One core starts a fill, the handler
- * works it off in pieces, and another core polls it. The device is saved and
+ * advances it in pieces, and another core polls it. The device is saved and
  * started again from what was saved. Whatever is printed has been compared;
- * the first difference ends the program with 1. docs/interface.md tells the
- * same in words.
+ * the first difference ends the program with 1. docs/interface.md describes
+ * the same in words.
  */
 #include <stdio.h>
 #include <stdlib.h>
@@ -118,7 +118,7 @@ static void ask_sector(uint32_t port, uint8_t lba)
     mailbox[port][LBA_LOW] = lba;
 }
 
-/* The reply has this Status and Error, this sector (NULL: zeros), and else 0. */
+/* The reply has this Status and Error, this sector (NULL: zeros), and 0 elsewhere. */
 static int replied(uint32_t port, uint8_t status, uint8_t error, const uint8_t *sector)
 {
     uint8_t reply[SCT_MAILBOX_BYTES] = { 0 };
@@ -193,8 +193,8 @@ static void fill_from_core_0(void)
     printf("port 0: fill accepted\n");
 }
 
-/* The handler works in its idle time; core 1 polls, which does not stop the fill. */
-static void work_off(void)
+/* The handler advances the fill in its idle time; core 1 polls, which does not stop it. */
+static void advance_fill(void)
 {
     EXPECT(work(10) == 10);
     EXPECT(disk_is(10));
@@ -209,7 +209,7 @@ static void work_off(void)
     poll(1, (struct status){ 1, 0, 0x0000, 2, 1, 0, 0x80, 0x80, 0x80 });
 }
 
-static void measure_and_save(void)
+static void sample_and_save(void)
 {
     EXPECT(sct_sample(device, sizeof device, 0x23) == SCT_DONE);
     EXPECT(sct_save(device, sizeof device, image, sizeof image, used) == SCT_DONE);
@@ -257,8 +257,8 @@ int main(void)
 {
     start();
     fill_from_core_0();
-    work_off();
-    measure_and_save();
+    advance_fill();
+    sample_and_save();
     start_again();
     refuse();
     return 0;

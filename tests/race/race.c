@@ -26,7 +26,7 @@
 
 enum { SECTORS = 64, VISIBLE = 32, WRITERS = 2, REQUESTS = 12, MAILBOX_WORDS = SCT_MAILBOX_BYTES / 8 };
 
-/* ---- The common memory, and those who write it --------------------------------- */
+/* ---- The common memory, and the threads that write it --------------------------- */
 
 /* Written by every thread without any order: that is the point. */
 static volatile uint64_t mailbox[MAILBOX_WORDS];
@@ -88,7 +88,7 @@ static void *write_mailbox(void *argument)
     return NULL;
 }
 
-/* ---- The device under test, and the reference beside it -------------------------- */
+/* ---- The device under test, and the reference ------------------------------------- */
 
 struct device {
     uint8_t record[SCT_RECORD_BYTES];

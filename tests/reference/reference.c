@@ -1,15 +1,15 @@
 /*
  * reference.c - a plain reading of the scope paper, to test the archive
- * against and to be read beside it.
+ * against, and to be read along with the paper.
  *
  * It has the archive's ten entries (prefix ref_) over the archive's buffers,
  * and gives the same bytes. Each section quotes the sentences it follows. The
  * offsets in the record are those of docs/record-layout.md.
  *
  * Two of the paper's words have other names here: an "owed" transfer is a
- * pending transfer, and a feature's "mark" says whether it is persistent.
+ * pending transfer, and a feature with a "mark" is persistent.
  *
- * The entries stand at the end, in the order of sct_disk.h. Each opens the
+ * The entries are at the end, in the order of sct_disk.h. Each opens the
  * record into a struct, refuses in the paper's order, decides, and writes the
  * struct back.
  */
@@ -164,11 +164,11 @@ struct device {
     uint64_t first, next, end;  /* of the running fill, else 0 */
     uint16_t code, action, function;
     uint16_t timer[TIMERS];
-    uint16_t state[FEATURES];   /* state[LOG_INTERVAL] stands in the table */
+    uint16_t state[FEATURES];   /* state[LOG_INTERVAL] is in the table */
     uint8_t  persistent[FEATURES];
     uint16_t minutes;
     uint8_t  now, cycle_maximum, life_maximum;
-    uint16_t index;             /* of the newest reading; stands in the table */
+    uint16_t index;             /* of the newest reading; is in the table */
     struct port port[SCT_PORTS];
 };
 
@@ -731,7 +731,7 @@ static uint16_t word(const uint8_t *key, int number)
 /*
  * "Start above last user LBA, or Start + Count above last user LBA: 0002h".
  * "Start + Count is a whole-number sum; it never wraps": so Count is compared
- * with what is left behind Start.
+ * with what is left after Start.
  */
 static uint16_t judge_fill(const struct device *d, const uint8_t *key)
 {

@@ -1,13 +1,13 @@
 /*
  * stack.c - how much stack each entry uses.
  *
- * A call is made on a stack of its own, painted with one byte; the lowest byte
- * that lost its paint tells the depth. The same call of an entry that does
- * nothing is taken off, so that the numbers are the entry's own, with its
- * return address. x86-64 only.
+ * A call is made on a separate stack, painted with one byte; the lowest byte
+ * that has lost its paint shows the depth. The depth of the same call of an
+ * entry that does nothing is subtracted, so that the numbers are the entry's,
+ * with its return address. x86-64 only.
  *
- * Paint shows what is written, not what is merely set aside: a frame whose
- * lowest bytes are never touched looks that much smaller.
+ * Paint shows what is written, not what is merely reserved: a frame whose
+ * lowest bytes are never written looks that much smaller.
  *
  * Every call is made once before it is measured (an entry of a shared library
  * is bound at its first call) and then with two paints, so that a byte that
@@ -164,7 +164,7 @@ static const struct implementation nothing = {
 
 static uint8_t stack[STACK_BYTES] __attribute__((aligned(64)));
 
-/* Calls f(argument) with the stack pointer at `top`, and comes back. */
+/* Calls f(argument) with the stack pointer at `top`. */
 static void call_on(uint8_t *top, void (*f)(void *), void *argument)
 {
     __asm__ volatile("movq %%rsp, %%rbx\n\t"
@@ -320,7 +320,7 @@ static void requests_in_every_state(void)
         measure_entry(SAMPLE);
 }
 
-/* An image grows to 117 entries; from each it is started. */
+/* An image grows to 117 entries, with a power-on from each length. */
 static void chains(void)
 {
     for (used = 0; used <= SCT_IMAGE_LIMIT; used += SCT_ENTRY_BYTES) {
