@@ -1,4 +1,5 @@
 // The device as a struct by value. The history stays in the record's bytes: the struct is small.
+use layout::PORTS;
 ghost use mathlib.Core.Path.{_≡_};
 ghost use Prim.Native.Nat.{ℕ};
 ghost use Rattle.model.specs.Device.{nextSector};
@@ -82,7 +83,7 @@ pub struct Device {
     pub command: Command,
     pub settings: Settings,
     pub thermal: Thermal,
-    pub slots: [Slot; 4],
+    pub slots: [Slot; PORTS],
 }
 
 impl Settings {

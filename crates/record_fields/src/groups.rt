@@ -5,6 +5,7 @@ use crate::cases::fill_kind;
 use crate::cases::transfer_end;
 use crate::cases::transfer_first;
 use crate::cases::transfer_kind;
+use layout::PORTS;
 use layout::field;
 use layout::port;
 use record::Command;
@@ -108,7 +109,7 @@ fn put_slot(device: &mut [u8], i: usize, s: Slot)
     wire::put_u64(device, at + port::END_AT, transfer_end(pending));
 }
 
-pub fn put_slots(device: &mut [u8], slots: [Slot; 4])
+pub fn put_slots(device: &mut [u8], slots: [Slot; PORTS])
     requires { ⌜ length (now device) ≡ recordSize ⌝ }
     ensures { λ _. ⌜ now (device .exit) ≡ stores (slotsFields (stagesOf slots) (pendingOf slots)) (now (device .entry)) ⌝ }
     ensures fits { λ _. ⌜ Fit (slotsFields (stagesOf slots) (pendingOf slots)) ⌝ }

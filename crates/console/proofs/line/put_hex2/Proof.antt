@@ -6,21 +6,6 @@ use Rattle.console.proofs.WroteLaws.{wrote-then, wrote-as}
 use Rattle.console.proofs.line.put_hex2.Statement.{statement}
 use Rattle.console.proofs.line.put_hex2.Tie as tie
 
-hex-digit-requires : tie.Need-hex-digit-requires
-hex-digit-requires c κs = search needs
-
-put-byte-requires : tie.Need-put-byte-requires
-put-byte-requires c κs = search needs
-
-hex-digit-requires-2 : tie.Need-hex-digit-requires-2
-hex-digit-requires-2 c κs = search needs
-
-put-byte-requires-2 : tie.Need-put-byte-requires-2
-put-byte-requires-2 c κs = search needs
-
-same-length : tie.Need-same-length
-same-length c = search needs
-
 returns : tie.Need-returns
 returns c =
     let at-put-byte2 = c .before .before in
@@ -38,9 +23,9 @@ pub put-hex2-spec : {M : Type 1} → statement M
 put-hex2-spec =
     tie.close
     (tie.spec
-    hex-digit-requires
-    put-byte-requires
-    hex-digit-requires-2
-    put-byte-requires-2
-    same-length
+    (λ c κs. search needs)
+    (λ c κs. search needs)
+    (λ c κs. search needs)
+    (λ c κs. search needs)
+    (λ c. search needs)
     returns)

@@ -6,21 +6,6 @@ use Rattle.console.proofs.DigitsLaws.{hex-halves}
 use Rattle.console.proofs.line.put_hex4.Statement.{statement}
 use Rattle.console.proofs.line.put_hex4.Tie as tie
 
-cast-put-hex2 : tie.Need-cast-put-hex2
-cast-put-hex2 c = search needs
-
-put-hex2-requires : tie.Need-put-hex2-requires
-put-hex2-requires c κs = search needs
-
-cast-put-hex2-2 : tie.Need-cast-put-hex2-2
-cast-put-hex2-2 c = search needs
-
-put-hex2-requires-2 : tie.Need-put-hex2-requires-2
-put-hex2-requires-2 c κs = search needs
-
-same-length : tie.Need-same-length
-same-length c = search needs
-
 returns : tie.Need-returns
 returns c =
     let at-put-hex22 = c .before .before in
@@ -35,9 +20,9 @@ pub put-hex4-spec : {M : Type 1} → statement M
 put-hex4-spec =
     tie.close
     (tie.spec
-    cast-put-hex2
-    put-hex2-requires
-    cast-put-hex2-2
-    put-hex2-requires-2
-    same-length
+    (λ c. search needs)
+    (λ c κs. search needs)
+    (λ c. search needs)
+    (λ c κs. search needs)
+    (λ c. search needs)
     returns)

@@ -8,27 +8,6 @@ use borrow.Author.Needs.{needs}
 use Rattle.decide.proofs.access.completed.Statement.{statement}
 use Rattle.decide.proofs.access.completed.Tie as tie
 
-enum-told : tie.Need-enum-told
-enum-told c = search needs
-
-good-requires : tie.Need-good-requires
-good-requires c κs = search needs
-
-replied-requires : tie.Need-replied-requires
-replied-requires c κs = search needs
-
-enum-told-2 : tie.Need-enum-told-2
-enum-told-2 c = search needs
-
-to-send-requires : tie.Need-to-send-requires
-to-send-requires c κs = search needs
-
-enum-known-t : tie.Need-enum-known-t
-enum-known-t c = search needs
-
-to-write-requires : tie.Need-to-write-requires
-to-write-requires c κs = search needs
-
 returns : tie.Need-returns
 returns c =
     let at-good2 = c .before in
@@ -55,13 +34,13 @@ pub completed-spec : {M : Type 1} → statement M
 completed-spec =
     tie.close
     (tie.spec
-    enum-told
-    good-requires
-    replied-requires
-    enum-told-2
-    to-send-requires
-    enum-known-t
-    to-write-requires
+    (λ c. search needs)
+    (λ c κs. search needs)
+    (λ c κs. search needs)
+    (λ c. search needs)
+    (λ c κs. search needs)
+    (λ c. search needs)
+    (λ c κs. search needs)
     returns
     returns-2
     returns-3)

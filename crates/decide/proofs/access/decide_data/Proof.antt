@@ -5,24 +5,6 @@ use borrow.Author.Needs.{needs}
 use Rattle.decide.proofs.access.decide_data.Statement.{statement}
 use Rattle.decide.proofs.access.decide_data.Tie as tie
 
-pending-of-requires : tie.Need-pending-of-requires
-pending-of-requires c κs = search needs
-
-data-code-requires : tie.Need-data-code-requires
-data-code-requires c κs = search needs
-
-interrupt-requires : tie.Need-interrupt-requires
-interrupt-requires c κs = search needs
-
-with-code-requires : tie.Need-with-code-requires
-with-code-requires c κs = search needs
-
-refused-with-requires : tie.Need-refused-with-requires
-refused-with-requires c κs = search needs
-
-replied-requires : tie.Need-replied-requires
-replied-requires c κs = search needs
-
 returns : tie.Need-returns
 returns c =
     let at-refused-with = c .before in
@@ -34,9 +16,6 @@ returns c =
     let entry = at-pending-of .before in
     let a = entry .args in
     λ m. data-refused (a .d) (at-interrupt .interrupt .result) (at-with-code .with-code .result) (a .p) (asDirection (a .dir)) (a .count) (at-data-code .data-code .result) (asTransfer (at-pending-of .pending-of .result)) m _ (at-pending-of .pending-of .ensures) (at-data-code .data-code .ensures) (at-interrupt .interrupt .ensures) (at-with-code .with-code .ensures) (at-if1 .if1 .taken) _ (at-refused-with .refused-with .ensures) (c .replied .ensures)
-
-completed-requires : tie.Need-completed-requires
-completed-requires c κs = search needs
 
 returns-2 : tie.Need-returns-2
 returns-2 c =
@@ -53,12 +32,12 @@ pub decide-data-spec : {M : Type 1} → statement M
 decide-data-spec =
     tie.close
     (tie.spec
-    pending-of-requires
-    data-code-requires
-    interrupt-requires
-    with-code-requires
-    refused-with-requires
-    replied-requires
+    (λ c κs. search needs)
+    (λ c κs. search needs)
+    (λ c κs. search needs)
+    (λ c κs. search needs)
+    (λ c κs. search needs)
+    (λ c κs. search needs)
     returns
-    completed-requires
+    (λ c κs. search needs)
     returns-2)

@@ -5,18 +5,6 @@ use borrow.Author.Needs.{needs}
 use Rattle.decide.proofs.access.decide_sector.Statement.{statement}
 use Rattle.decide.proofs.access.decide_sector.Tie as tie
 
-sector-error-requires : tie.Need-sector-error-requires
-sector-error-requires c κs = search needs
-
-interrupt-requires : tie.Need-interrupt-requires
-interrupt-requires c κs = search needs
-
-refused-requires : tie.Need-refused-requires
-refused-requires c κs = search needs
-
-replied-requires : tie.Need-replied-requires
-replied-requires c κs = search needs
-
 returns : tie.Need-returns
 returns c =
     let at-refused = c .before in
@@ -26,9 +14,6 @@ returns c =
     let entry = at-sector-error .before in
     let a = entry .args in
     λ m. access-refused (a .d) (at-interrupt .interrupt .result) (asDirection (a .dir)) (a .count) (a .lba) (at-sector-error .sector-error .result) m _ (at-sector-error .sector-error .ensures) (at-interrupt .interrupt .ensures) (at-if1 .if1 .taken) _ (at-refused .refused .ensures) (c .replied .ensures)
-
-moved-requires : tie.Need-moved-requires
-moved-requires c κs = search needs
 
 returns-2 : tie.Need-returns-2
 returns-2 c =
@@ -43,10 +28,10 @@ pub decide-sector-spec : {M : Type 1} → statement M
 decide-sector-spec =
     tie.close
     (tie.spec
-    sector-error-requires
-    interrupt-requires
-    refused-requires
-    replied-requires
+    (λ c κs. search needs)
+    (λ c κs. search needs)
+    (λ c κs. search needs)
+    (λ c κs. search needs)
     returns
-    moved-requires
+    (λ c κs. search needs)
     returns-2)

@@ -7,18 +7,6 @@ use borrow.Author.Needs.{needs}
 use Rattle.decide.proofs.access.moved.Statement.{statement}
 use Rattle.decide.proofs.access.moved.Tie as tie
 
-enum-told : tie.Need-enum-told
-enum-told c = search needs
-
-to-send-requires : tie.Need-to-send-requires
-to-send-requires c κs = search needs
-
-enum-told-2 : tie.Need-enum-told-2
-enum-told-2 c = search needs
-
-to-write-requires : tie.Need-to-write-requires
-to-write-requires c κs = search needs
-
 returns : tie.Need-returns
 returns c =
     let at-enum-told = c .before in
@@ -35,4 +23,4 @@ returns-2 c =
 
 pub moved-spec : {M : Type 1} → statement M
 moved-spec =
-    tie.close (tie.spec enum-told to-send-requires enum-told-2 to-write-requires returns returns-2)
+    tie.close (tie.spec (λ c. search needs) (λ c κs. search needs) (λ c. search needs) (λ c κs. search needs) returns returns-2)

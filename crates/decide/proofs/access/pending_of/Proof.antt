@@ -5,12 +5,6 @@ use borrow.Author.Needs.{needs}
 use Rattle.decide.proofs.access.pending_of.Statement.{statement}
 use Rattle.decide.proofs.access.pending_of.Tie as tie
 
-mul-s : tie.Need-mul-s
-mul-s c = search needs
-
-array-copy-out-s : tie.Need-array-copy-out-s
-array-copy-out-s c = search needs
-
 returns : tie.Need-returns
 returns c =
     let entry = c .before .before in
@@ -18,4 +12,4 @@ returns c =
     slot-pending (a .d .slots) (a .p) _ (omega (arith, entry .pre))
 
 pub pending-of-spec : {M : Type 1} → statement M
-pending-of-spec = tie.close (tie.spec mul-s array-copy-out-s returns)
+pending-of-spec = tie.close (tie.spec (λ c. search needs) (λ c. search needs) returns)

@@ -7,15 +7,6 @@ use borrow.Author.Needs.{needs}
 use Rattle.decide.proofs.choice.decide_other.Statement.{statement}
 use Rattle.decide.proofs.choice.decide_other.Tie as tie
 
-interrupt-requires : tie.Need-interrupt-requires
-interrupt-requires c κs = search needs
-
-refused-requires : tie.Need-refused-requires
-refused-requires c κs = search needs
-
-replied-requires : tie.Need-replied-requires
-replied-requires c κs = search needs
-
 returns : tie.Need-returns
 returns c =
     let at-refused = c .before in
@@ -25,4 +16,4 @@ returns c =
 
 pub decide-other-spec : {M : Type 1} → statement M
 decide-other-spec =
-    tie.close (tie.spec interrupt-requires refused-requires replied-requires returns)
+    tie.close (tie.spec (λ c κs. search needs) (λ c κs. search needs) (λ c κs. search needs) returns)

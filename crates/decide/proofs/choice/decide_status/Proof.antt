@@ -4,21 +4,12 @@ use borrow.Author.Needs.{needs}
 use Rattle.decide.proofs.choice.decide_status.Statement.{statement}
 use Rattle.decide.proofs.choice.decide_status.Tie as tie
 
-refused-with-requires : tie.Need-refused-with-requires
-refused-with-requires c κs = search needs
-
-replied-requires : tie.Need-replied-requires
-replied-requires c κs = search needs
-
 returns : tie.Need-returns
 returns c =
     let at-refused-with = c .before in
     let at-if1 = at-refused-with .before in
     let entry = at-if1 .before in
     λ m. status-refused (entry .args .d) m _ (at-if1 .if1 .taken) _ (at-refused-with .refused-with .ensures) (c .replied .ensures)
-
-to-send-requires : tie.Need-to-send-requires
-to-send-requires c κs = search needs
 
 returns-2 : tie.Need-returns-2
 returns-2 c =
@@ -28,4 +19,4 @@ returns-2 c =
 
 pub decide-status-spec : {M : Type 1} → statement M
 decide-status-spec =
-    tie.close (tie.spec refused-with-requires replied-requires returns to-send-requires returns-2)
+    tie.close (tie.spec (λ c κs. search needs) (λ c κs. search needs) returns (λ c κs. search needs) returns-2)

@@ -7,21 +7,6 @@ use borrow.Author.Needs.{needs}
 use Rattle.decide.proofs.key_sector.recorded.Statement.{statement}
 use Rattle.decide.proofs.key_sector.recorded.Tie as tie
 
-interrupt-requires : tie.Need-interrupt-requires
-interrupt-requires c κs = search needs
-
-u16-at-requires : tie.Need-u16-at-requires
-u16-at-requires c κs = search needs
-
-add-u16-at : tie.Need-add-u16-at
-add-u16-at c = search needs
-
-u16-at-requires-2 : tie.Need-u16-at-requires-2
-u16-at-requires-2 c κs = search needs
-
-with-key-requires : tie.Need-with-key-requires
-with-key-requires c κs = search needs
-
 returns : tie.Need-returns
 returns c =
     let at-u16-at2 = c .before in
@@ -34,9 +19,9 @@ pub recorded-spec : {M : Type 1} → statement M
 recorded-spec =
     tie.close
     (tie.spec
-    interrupt-requires
-    u16-at-requires
-    add-u16-at
-    u16-at-requires-2
-    with-key-requires
+    (λ c κs. search needs)
+    (λ c κs. search needs)
+    (λ c. search needs)
+    (λ c κs. search needs)
+    (λ c κs. search needs)
     returns)

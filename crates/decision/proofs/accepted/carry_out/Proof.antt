@@ -8,90 +8,6 @@ use borrow.Author.Needs.{needs}
 use Rattle.decision.proofs.accepted.carry_out.Statement.{statement}
 use Rattle.decision.proofs.accepted.carry_out.Tie as tie
 
-enum-known-action : tie.Need-enum-known-action
-enum-known-action c = search needs
-
-to-write-requires : tie.Need-to-write-requires
-to-write-requires c κs = search needs
-
-enum-known-action-2 : tie.Need-enum-known-action-2
-enum-known-action-2 c = search needs
-
-with-pending-requires : tie.Need-with-pending-requires
-with-pending-requires c κs = search needs
-
-good-requires : tie.Need-good-requires
-good-requires c κs = search needs
-
-replied-requires : tie.Need-replied-requires
-replied-requires c κs = search needs
-
-enum-known-action-3 : tie.Need-enum-known-action-3
-enum-known-action-3 c = search needs
-
-set-timer-requires : tie.Need-set-timer-requires
-set-timer-requires c κs = search needs
-
-good-requires-2 : tie.Need-good-requires-2
-good-requires-2 c κs = search needs
-
-replied-requires-2 : tie.Need-replied-requires-2
-replied-requires-2 c κs = search needs
-
-enum-known-action-4 : tie.Need-enum-known-action-4
-enum-known-action-4 c = search needs
-
-timer-requires : tie.Need-timer-requires
-timer-requires c κs = search needs
-
-good-requires-3 : tie.Need-good-requires-3
-good-requires-3 c κs = search needs
-
-replied-requires-3 : tie.Need-replied-requires-3
-replied-requires-3 c κs = search needs
-
-enum-known-action-5 : tie.Need-enum-known-action-5
-enum-known-action-5 c = search needs
-
-feature-set-requires : tie.Need-feature-set-requires
-feature-set-requires c κs = search needs
-
-enum-known-action-6 : tie.Need-enum-known-action-6
-enum-known-action-6 c = search needs
-
-state-of-requires : tie.Need-state-of-requires
-state-of-requires c κs = search needs
-
-good-requires-4 : tie.Need-good-requires-4
-good-requires-4 c κs = search needs
-
-replied-requires-4 : tie.Need-replied-requires-4
-replied-requires-4 c κs = search needs
-
-enum-known-action-7 : tie.Need-enum-known-action-7
-enum-known-action-7 c = search needs
-
-option-of-requires : tie.Need-option-of-requires
-option-of-requires c κs = search needs
-
-good-requires-5 : tie.Need-good-requires-5
-good-requires-5 c κs = search needs
-
-replied-requires-5 : tie.Need-replied-requires-5
-replied-requires-5 c κs = search needs
-
-enum-told : tie.Need-enum-told
-enum-told c = search needs
-
-with-pending-requires-2 : tie.Need-with-pending-requires-2
-with-pending-requires-2 c κs = search needs
-
-good-requires-6 : tie.Need-good-requires-6
-good-requires-6 c κs = search needs
-
-replied-requires-6 : tie.Need-replied-requires-6
-replied-requires-6 c κs = search needs
-
 returns : tie.Need-returns
 unfolding carryOut
 returns c =
@@ -164,34 +80,34 @@ pub carry-out-spec : {M : Type 1} → statement M
 carry-out-spec =
     tie.close
     (tie.spec
-    enum-known-action
-    to-write-requires
-    enum-known-action-2
-    with-pending-requires
-    good-requires
-    replied-requires
-    enum-known-action-3
-    set-timer-requires
-    good-requires-2
-    replied-requires-2
-    enum-known-action-4
-    timer-requires
-    good-requires-3
-    replied-requires-3
-    enum-known-action-5
-    feature-set-requires
-    enum-known-action-6
-    state-of-requires
-    good-requires-4
-    replied-requires-4
-    enum-known-action-7
-    option-of-requires
-    good-requires-5
-    replied-requires-5
-    enum-told
-    with-pending-requires-2
-    good-requires-6
-    replied-requires-6
+    (λ c. search needs)
+    (λ c κs. search needs)
+    (λ c. search needs)
+    (λ c κs. search needs)
+    (λ c κs. search needs)
+    (λ c κs. search needs)
+    (λ c. search needs)
+    (λ c κs. search needs)
+    (λ c κs. search needs)
+    (λ c κs. search needs)
+    (λ c. search needs)
+    (λ c κs. search needs)
+    (λ c κs. search needs)
+    (λ c κs. search needs)
+    (λ c. search needs)
+    (λ c κs. search needs)
+    (λ c. search needs)
+    (λ c κs. search needs)
+    (λ c κs. search needs)
+    (λ c κs. search needs)
+    (λ c. search needs)
+    (λ c κs. search needs)
+    (λ c κs. search needs)
+    (λ c κs. search needs)
+    (λ c. search needs)
+    (λ c κs. search needs)
+    (λ c κs. search needs)
+    (λ c κs. search needs)
     returns
     returns-2
     returns-3

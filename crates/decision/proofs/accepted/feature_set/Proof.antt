@@ -6,15 +6,6 @@ use borrow.Author.Needs.{needs}
 use Rattle.decision.proofs.accepted.feature_set.Statement.{statement}
 use Rattle.decision.proofs.accepted.feature_set.Tie as tie
 
-set-feature-requires : tie.Need-set-feature-requires
-set-feature-requires c κs = search needs
-
-good-requires : tie.Need-good-requires
-good-requires c κs = search needs
-
-is-interval-requires : tie.Need-is-interval-requires
-is-interval-requires c κs = search needs
-
 returns : tie.Need-returns
 returns c =
     let at-good2 = c .before in
@@ -25,4 +16,4 @@ returns c =
 
 pub feature-set-spec : {M : Type 1} → statement M
 feature-set-spec =
-    tie.close (tie.spec set-feature-requires good-requires is-interval-requires returns)
+    tie.close (tie.spec (λ c κs. search needs) (λ c κs. search needs) (λ c κs. search needs) returns)

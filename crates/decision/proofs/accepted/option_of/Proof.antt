@@ -6,17 +6,8 @@ use borrow.Author.Needs.{needs}
 use Rattle.decision.proofs.accepted.option_of.Statement.{statement}
 use Rattle.decision.proofs.accepted.option_of.Tie as tie
 
-feature-requires : tie.Need-feature-requires
-feature-requires c κs = search needs
-
-bit-of-requires : tie.Need-bit-of-requires
-bit-of-requires c κs = search needs
-
-cast-result : tie.Need-cast-result
-cast-result c = search needs
-
 returns : tie.Need-returns
 returns c = c .bit-of .ensures .0 ∙ ap (λ (f : Feature). bit (f .persistent)) (c .before .feature .ensures)
 
 pub option-of-spec : {M : Type 1} → statement M
-option-of-spec = tie.close (tie.spec feature-requires bit-of-requires cast-result returns)
+option-of-spec = tie.close (tie.spec (λ c κs. search needs) (λ c κs. search needs) (λ c. search needs) returns)

@@ -5,11 +5,8 @@ use borrow.Author.Needs.{needs}
 use Rattle.decision.proofs.accepted.state_of.Statement.{statement}
 use Rattle.decision.proofs.accepted.state_of.Tie as tie
 
-feature-requires : tie.Need-feature-requires
-feature-requires c κs = search needs
-
 returns : tie.Need-returns
 returns c = ap (λ (f : Feature). f .state) (c .feature .ensures)
 
 pub state-of-spec : {M : Type 1} → statement M
-state-of-spec = tie.close (tie.spec feature-requires returns)
+state-of-spec = tie.close (tie.spec (λ c κs. search needs) returns)

@@ -6,30 +6,6 @@ use borrow.Author.Needs.{needs}
 use Rattle.desk_session.proofs.turns.exchange.Statement.{statement}
 use Rattle.desk_session.proofs.turns.exchange.Tie as tie
 
-sct-take-requires : tie.Need-sct-take-requires
-sct-take-requires c κs = search needs
-
-sct-serve-requires : tie.Need-sct-serve-requires
-sct-serve-requires c κs = search needs
-
-sct-give-requires : tie.Need-sct-give-requires
-sct-give-requires c κs = search needs
-
-sct-work-requires : tie.Need-sct-work-requires
-sct-work-requires c κs = search needs
-
-same-length : tie.Need-same-length
-same-length c = search needs
-
-same-length-2 : tie.Need-same-length-2
-same-length-2 c = search needs
-
-same-length-3 : tie.Need-same-length-3
-same-length-3 c = search needs
-
-same-length-4 : tie.Need-same-length-4
-same-length-4 c = search needs
-
 returns : tie.Need-returns
 returns c =
     let at-sct-work = c .before .before .before .before in
@@ -60,12 +36,12 @@ pub exchange-spec : {M : Type 1} → statement M
 exchange-spec =
     tie.close
     (tie.spec
-    sct-take-requires
-    sct-serve-requires
-    sct-give-requires
-    sct-work-requires
-    same-length
-    same-length-2
-    same-length-3
-    same-length-4
+    (λ c κs. search needs)
+    (λ c κs. search needs)
+    (λ c κs. search needs)
+    (λ c κs. search needs)
+    (λ c. search needs)
+    (λ c. search needs)
+    (λ c. search needs)
+    (λ c. search needs)
     returns)

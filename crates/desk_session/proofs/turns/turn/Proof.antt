@@ -6,36 +6,6 @@ use borrow.Author.Needs.{needs}
 use Rattle.desk_session.proofs.turns.turn.Statement.{statement}
 use Rattle.desk_session.proofs.turns.turn.Tie as tie
 
-exchange-requires : tie.Need-exchange-requires
-exchange-requires c κs = search needs
-
-code-at-requires : tie.Need-code-at-requires
-code-at-requires c κs = search needs
-
-slice-read-put-report : tie.Need-slice-read-put-report
-slice-read-put-report c = search needs
-
-slice-read-put-report-2 : tie.Need-slice-read-put-report-2
-slice-read-put-report-2 c = search needs
-
-put-report-requires : tie.Need-put-report-requires
-put-report-requires c κs = search needs
-
-same-length : tie.Need-same-length
-same-length c = search needs
-
-same-length-2 : tie.Need-same-length-2
-same-length-2 c = search needs
-
-same-length-3 : tie.Need-same-length-3
-same-length-3 c = search needs
-
-same-length-4 : tie.Need-same-length-4
-same-length-4 c = search needs
-
-same-length-5 : tie.Need-same-length-5
-same-length-5 c = search needs
-
 returns : tie.Need-returns
 returns c =
     let at-put-report = c .before .before in
@@ -55,14 +25,14 @@ pub turn-spec : {M : Type 1} → statement M
 turn-spec =
     tie.close
     (tie.spec
-    exchange-requires
-    code-at-requires
-    slice-read-put-report
-    slice-read-put-report-2
-    put-report-requires
-    same-length
-    same-length-2
-    same-length-3
-    same-length-4
-    same-length-5
+    (λ c κs. search needs)
+    (λ c κs. search needs)
+    (λ c. search needs)
+    (λ c. search needs)
+    (λ c κs. search needs)
+    (λ c. search needs)
+    (λ c. search needs)
+    (λ c. search needs)
+    (λ c. search needs)
+    (λ c. search needs)
     returns)

@@ -4,33 +4,6 @@ use Rattle.device_update.proofs.InterruptLaw.{interrupted}
 use Rattle.device_update.proofs.command.interrupt.Statement.{statement}
 use Rattle.device_update.proofs.command.interrupt.Tie as tie
 
-stopped-code-requires : tie.Need-stopped-code-requires
-stopped-code-requires c κs = search needs
-
-array-copy-out-cleared : tie.Need-array-copy-out-cleared
-array-copy-out-cleared c = search needs
-
-cleared-requires : tie.Need-cleared-requires
-cleared-requires c κs = search needs
-
-array-copy-out-cleared-2 : tie.Need-array-copy-out-cleared-2
-array-copy-out-cleared-2 c = search needs
-
-cleared-requires-2 : tie.Need-cleared-requires-2
-cleared-requires-2 c κs = search needs
-
-array-copy-out-cleared-3 : tie.Need-array-copy-out-cleared-3
-array-copy-out-cleared-3 c = search needs
-
-cleared-requires-3 : tie.Need-cleared-requires-3
-cleared-requires-3 c κs = search needs
-
-array-copy-out-cleared-4 : tie.Need-array-copy-out-cleared-4
-array-copy-out-cleared-4 c = search needs
-
-cleared-requires-4 : tie.Need-cleared-requires-4
-cleared-requires-4 c κs = search needs
-
 returns : tie.Need-returns
 returns c =
     let at-cleared4 = c .before .before in
@@ -46,13 +19,13 @@ pub interrupt-spec : {M : Type 1} → statement M
 interrupt-spec =
     tie.close
     (tie.spec
-    stopped-code-requires
-    array-copy-out-cleared
-    cleared-requires
-    array-copy-out-cleared-2
-    cleared-requires-2
-    array-copy-out-cleared-3
-    cleared-requires-3
-    array-copy-out-cleared-4
-    cleared-requires-4
+    (λ c κs. search needs)
+    (λ c. search needs)
+    (λ c κs. search needs)
+    (λ c. search needs)
+    (λ c κs. search needs)
+    (λ c. search needs)
+    (λ c κs. search needs)
+    (λ c. search needs)
+    (λ c κs. search needs)
     returns)

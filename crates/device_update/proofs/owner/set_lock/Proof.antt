@@ -6,9 +6,6 @@ use borrow.Author.Needs.{needs}
 use Rattle.device_update.proofs.owner.set_lock.Statement.{statement}
 use Rattle.device_update.proofs.owner.set_lock.Tie as tie
 
-interrupt-requires : tie.Need-interrupt-requires
-interrupt-requires c κs = search needs
-
 returns : tie.Need-returns
 unfolding setLock
 returns c =
@@ -16,4 +13,4 @@ returns c =
     record { device = λ h. ap (withLocked (c .before .args .locked)) (i .device h); stages = i .stages; four = i .four }
 
 pub set-lock-spec : {M : Type 1} → statement M
-set-lock-spec = tie.close (tie.spec interrupt-requires returns)
+set-lock-spec = tie.close (tie.spec (λ c κs. search needs) returns)

@@ -9,9 +9,6 @@ use borrow.Author.Needs.{needs}
 use Rattle.device_update.proofs.owner.set_visible.Statement.{statement}
 use Rattle.device_update.proofs.owner.set_visible.Tie as tie
 
-interrupt-requires : tie.Need-interrupt-requires
-interrupt-requires c κs = search needs
-
 returns : tie.Need-returns
 unfolding setVisible
 returns c =
@@ -24,4 +21,4 @@ returns c =
     }
 
 pub set-visible-spec : {M : Type 1} → statement M
-set-visible-spec = tie.close (tie.spec interrupt-requires returns)
+set-visible-spec = tie.close (tie.spec (λ c κs. search needs) returns)

@@ -7,12 +7,6 @@ use Rattle.effect.proofs.answered.empty_if.Tie as tie
 returns : tie.Need-returns
 returns c = rw (not-true (c .before .before .args .asked) (c .if1 .taken))
 
-empty-history-requires : tie.Need-empty-history-requires
-empty-history-requires c κs = search needs
-
-same-length : tie.Need-same-length
-same-length c = search needs
-
 returns-2 : tie.Need-returns-2
 returns-2 c =
     let at-empty-history = c .before .before in
@@ -21,4 +15,4 @@ returns-2 c =
     rw (at-empty-history .empty-history .ensures, not-false (entry .args .asked) (at-if1 .if1 .left))
 
 pub empty-if-spec : {M : Type 1} → statement M
-empty-if-spec = tie.close (tie.spec returns empty-history-requires same-length returns-2)
+empty-if-spec = tie.close (tie.spec returns (λ c κs. search needs) (λ c. search needs) returns-2)

@@ -9,21 +9,12 @@ use borrow.Author.Needs.{needs}
 use Rattle.effect.proofs.answered.finish.Statement.{statement}
 use Rattle.effect.proofs.answered.finish.Tie as tie
 
-empty-if-requires : tie.Need-empty-if-requires
-empty-if-requires c κs = search needs
-
 write-requires : tie.Need-write-requires
 write-requires c κs =
     let at-empty-if = c .before .before .before in
     let entry = at-empty-if .before .before .before in
     let a = entry .args in
     rw (at-empty-if .empty-if .ensures) (emptied-ready (a .device .now) (entry .pre .0) (a .empties))
-
-put-stage-requires : tie.Need-put-stage-requires
-put-stage-requires c κs = search needs
-
-same-length : tie.Need-same-length
-same-length c = search needs
 
 returns : tie.Need-returns
 returns c =
@@ -36,4 +27,4 @@ returns c =
 
 pub finish-spec : {M : Type 1} → statement M
 finish-spec =
-    tie.close (tie.spec empty-if-requires write-requires put-stage-requires same-length returns)
+    tie.close (tie.spec (λ c κs. search needs) write-requires (λ c κs. search needs) (λ c. search needs) returns)

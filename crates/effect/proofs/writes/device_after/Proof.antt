@@ -4,27 +4,6 @@ use borrow.Author.Needs.{needs}
 use Rattle.effect.proofs.writes.device_after.Statement.{statement}
 use Rattle.effect.proofs.writes.device_after.Tie as tie
 
-enum-told : tie.Need-enum-told
-enum-told c = search needs
-
-enum-told-2 : tie.Need-enum-told-2
-enum-told-2 c = search needs
-
-with-flag-cleared-requires : tie.Need-with-flag-cleared-requires
-with-flag-cleared-requires c κs = search needs
-
-enum-known-writes : tie.Need-enum-known-writes
-enum-known-writes c = search needs
-
-start-fill-requires : tie.Need-start-fill-requires
-start-fill-requires c κs = search needs
-
-enum-known-writes-2 : tie.Need-enum-known-writes-2
-enum-known-writes-2 c = search needs
-
-start-fill-requires-2 : tie.Need-start-fill-requires-2
-start-fill-requires-2 c κs = search needs
-
 returns : tie.Need-returns
 returns c = λ m. rw (c .enum-told .given .1) (record { device = λ h. refl; stages = refl; four = refl })
 
@@ -41,13 +20,13 @@ pub device-after-spec : {M : Type 1} → statement M
 device-after-spec =
     tie.close
     (tie.spec
-    enum-told
-    enum-told-2
-    with-flag-cleared-requires
-    enum-known-writes
-    start-fill-requires
-    enum-known-writes-2
-    start-fill-requires-2
+    (λ c. search needs)
+    (λ c. search needs)
+    (λ c κs. search needs)
+    (λ c. search needs)
+    (λ c κs. search needs)
+    (λ c. search needs)
+    (λ c κs. search needs)
     returns
     returns-2
     returns-3

@@ -4,18 +4,6 @@ use borrow.Author.Needs.{needs}
 use Rattle.fill.proofs.sector.put_data.Statement.{statement}
 use Rattle.fill.proofs.sector.put_data.Tie as tie
 
-mul-copy-within : tie.Need-mul-copy-within
-mul-copy-within c = search needs
-
-add-copy-within : tie.Need-add-copy-within
-add-copy-within c = search needs
-
-copy-within-requires : tie.Need-copy-within-requires
-copy-within-requires c κs = search needs
-
-same-length : tie.Need-same-length
-same-length c = search needs
-
 returns : tie.Need-returns
 returns c =
     let at-copy-within = c .before .before in
@@ -24,4 +12,4 @@ returns c =
 
 pub put-data-spec : {M : Type 1} → statement M
 put-data-spec =
-    tie.close (tie.spec mul-copy-within add-copy-within copy-within-requires same-length returns)
+    tie.close (tie.spec (λ c. search needs) (λ c. search needs) (λ c κs. search needs) (λ c. search needs) returns)

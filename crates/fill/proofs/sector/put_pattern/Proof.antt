@@ -4,18 +4,6 @@ use borrow.Author.Needs.{needs}
 use Rattle.fill.proofs.sector.put_pattern.Statement.{statement}
 use Rattle.fill.proofs.sector.put_pattern.Tie as tie
 
-mul-repeat-within : tie.Need-mul-repeat-within
-mul-repeat-within c = search needs
-
-add-repeat-within : tie.Need-add-repeat-within
-add-repeat-within c = search needs
-
-repeat-within-requires : tie.Need-repeat-within-requires
-repeat-within-requires c κs = search needs
-
-same-length : tie.Need-same-length
-same-length c = search needs
-
 returns : tie.Need-returns
 returns c =
     let at-repeat-within = c .before .before in
@@ -25,4 +13,4 @@ returns c =
 pub put-pattern-spec : {M : Type 1} → statement M
 put-pattern-spec =
     tie.close
-    (tie.spec mul-repeat-within add-repeat-within repeat-within-requires same-length returns)
+    (tie.spec (λ c. search needs) (λ c. search needs) (λ c κs. search needs) (λ c. search needs) returns)

@@ -5,12 +5,6 @@ use borrow.Author.Needs.{needs}
 use Rattle.fill.proofs.steps.count_of.Statement.{statement}
 use Rattle.fill.proofs.steps.count_of.Tie as tie
 
-remaining-requires : tie.Need-remaining-requires
-remaining-requires c κs = search needs
-
-cast-result : tie.Need-cast-result
-cast-result c = search needs
-
 returns : tie.Need-returns
 unfolding workCount
 returns c = let e = c .before .remaining .ensures in omega arith
@@ -20,4 +14,4 @@ unfolding workCount
 returns-2 c = let e = c .before .remaining .ensures in omega arith
 
 pub count-of-spec : {M : Type 1} → statement M
-count-of-spec = tie.close (tie.spec remaining-requires cast-result returns returns-2)
+count-of-spec = tie.close (tie.spec (λ c κs. search needs) (λ c. search needs) returns returns-2)

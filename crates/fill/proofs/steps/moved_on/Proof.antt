@@ -10,12 +10,6 @@ use Rattle.fill.proofs.steps.moved_on.Tie as tie
 returns : tie.Need-returns
 returns c = moved-none (c .before .args .k) (c .before .args .d) (c .if1 .taken)
 
-enum-known-fill : tie.Need-enum-known-fill
-enum-known-fill c = search needs
-
-enum-told : tie.Need-enum-told
-enum-told c = search needs
-
 returns-2 : tie.Need-returns-2
 returns-2 c =
     let at-if1 = c .before .before .before in
@@ -28,9 +22,6 @@ add-sector-written c =
     let entry = at-fill .before .before .before .before in
     let h = left-bounds _ (entry .args .k) _ _ _ (ap asFill (at-fill .fill .given .1)) (entry .pre) in omega (arith, h, c .known-told .given)
 
-sector-written-requires : tie.Need-sector-written-requires
-sector-written-requires c κs = search needs
-
 returns-3 : tie.Need-returns-3
 returns-3 c =
     let at-fill = c .before .before in
@@ -41,4 +32,4 @@ returns-3 c =
 pub moved-on-spec : {M : Type 1} → statement M
 moved-on-spec =
     tie.close
-    (tie.spec returns enum-known-fill enum-told returns-2 add-sector-written sector-written-requires returns-3)
+    (tie.spec returns (λ c. search needs) (λ c. search needs) returns-2 add-sector-written (λ c κs. search needs) returns-3)

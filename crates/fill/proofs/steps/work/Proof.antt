@@ -13,12 +13,6 @@ use Rattle.fill.proofs.steps.work.Tie as tie
 decode-requires : tie.Need-decode-requires
 decode-requires c κs = sound-parts (c .before .before .before .before .args .device .now) (c .before .before .before .before .pre .0) .size
 
-count-of-requires : tie.Need-count-of-requires
-count-of-requires c κs = search needs
-
-next-sector-requires : tie.Need-next-sector-requires
-next-sector-requires c κs = search needs
-
 write-sectors-requires : tie.Need-write-sectors-requires
 write-sectors-requires c κs =
     let at-count-of = c .before .before in
@@ -38,12 +32,6 @@ write-requires c κs =
     let known = c .before .before .before .before .before .before .before .before .before .before .before .before .before in
     let entry = known .before in
     sound-framed (entry .args .device .now) (λ i. omega (arith, known .slice-known .given i)) (entry .pre .0)
-
-same-length : tie.Need-same-length
-same-length c = search needs
-
-same-length-2 : tie.Need-same-length-2
-same-length-2 c = search needs
 
 returns : tie.Need-returns
 returns c =
@@ -68,11 +56,11 @@ work-spec =
     tie.close
     (tie.spec
     decode-requires
-    count-of-requires
-    next-sector-requires
+    (λ c κs. search needs)
+    (λ c κs. search needs)
     write-sectors-requires
     moved-on-requires
     write-requires
-    same-length
-    same-length-2
+    (λ c. search needs)
+    (λ c. search needs)
     returns)

@@ -36,9 +36,6 @@ add-at c = omega (arith, c .before .before .before .before .before .before .befo
 add-j : tie.Need-add-j Inv-loop μ-loop
 add-j c = omega (arith, c .before .before .before .before .before .before .before .before .pre, c .before .before .before .before .before .loop .inv)
 
-loop-less : tie.Need-loop-less Inv-loop μ-loop
-loop-less c = omega arith
-
 loop-again : tie.Need-loop-again Inv-loop μ-loop
 loop-again c =
     let at-copy-part = c .before .before in
@@ -70,7 +67,7 @@ write-sectors-spec =
     copy-part-requires
     add-at
     add-j
-    loop-less
+    (λ c. omega arith)
     loop-again
     same-length
     returns)

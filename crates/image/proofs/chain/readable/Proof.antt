@@ -15,21 +15,6 @@ returns-2 c = readable-long _ _ (c .before .if1 .left) (c .if2 .taken)
 returns-3 : tie.Need-returns-3
 returns-3 c = readable-empty _ _ (c .if3 .taken)
 
-sub-native-at : tie.Need-sub-native-at
-sub-native-at c = search needs
-
-native-at-requires : tie.Need-native-at-requires
-native-at-requires c κs = search needs
-
-sub-chain-holds : tie.Need-sub-chain-holds
-sub-chain-holds c = search needs
-
-cast-chain-holds : tie.Need-cast-chain-holds
-cast-chain-holds c = search needs
-
-chain-holds-requires : tie.Need-chain-holds-requires
-chain-holds-requires c κs = search needs
-
 returns-4 : tie.Need-returns-4
 returns-4 c =
     let some = c .before .before .before .if3 .left in
@@ -43,9 +28,9 @@ readable-spec =
     returns
     returns-2
     returns-3
-    sub-native-at
-    native-at-requires
-    sub-chain-holds
-    cast-chain-holds
-    chain-holds-requires
+    (λ c. search needs)
+    (λ c κs. search needs)
+    (λ c. search needs)
+    (λ c. search needs)
+    (λ c κs. search needs)
     returns-4)

@@ -4,12 +4,9 @@ use borrow.Author.Needs.{needs}
 use Rattle.image.proofs.entry.alike.Statement.{statement}
 use Rattle.image.proofs.entry.alike.Tie as tie
 
-native-at-requires : tie.Need-native-at-requires
-native-at-requires c κs = search needs
-
 returns : tie.Need-returns
 unfolding alike
 returns c latest e = rw (c .native-at .ensures, e)
 
 pub alike-spec : {M : Type 1} → statement M
-alike-spec = tie.close (tie.spec native-at-requires returns)
+alike-spec = tie.close (tie.spec (λ c κs. search needs) returns)

@@ -5,15 +5,6 @@ use borrow.Author.Needs.{needs}
 use Rattle.image.proofs.entry.previous_place.Statement.{statement}
 use Rattle.image.proofs.entry.previous_place.Tie as tie
 
-sub-result : tie.Need-sub-result
-sub-result c = search needs
-
-mul-result : tie.Need-mul-result
-mul-result c = search needs
-
-sub-result-2 : tie.Need-sub-result-2
-sub-result-2 c = search needs
-
 returns : tie.Need-returns
 returns c = rw (eq-eqb _ _ (c .if1 .taken))
 
@@ -21,4 +12,4 @@ returns-2 : tie.Need-returns-2
 returns-2 c = rw (ne-eqb _ _ (c .if1 .left)) (omega arith)
 
 pub previous-place-spec : {M : Type 1} → statement M
-previous-place-spec = tie.close (tie.spec sub-result mul-result sub-result-2 returns returns-2)
+previous-place-spec = tie.close (tie.spec (λ c. search needs) (λ c. search needs) (λ c. search needs) returns returns-2)

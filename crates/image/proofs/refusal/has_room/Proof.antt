@@ -4,11 +4,8 @@ use borrow.Author.Needs.{needs}
 use Rattle.image.proofs.refusal.has_room.Statement.{statement}
 use Rattle.image.proofs.refusal.has_room.Tie as tie
 
-sub-result : tie.Need-sub-result
-sub-result c = search needs
-
 returns : tie.Need-returns
 returns c = let a = c .args in room-left (a .image .now) (a .used) (c .pre)
 
 pub has-room-spec : {M : Type 1} → statement M
-has-room-spec = tie.close (tie.spec sub-result returns)
+has-room-spec = tie.close (tie.spec (λ c. search needs) returns)

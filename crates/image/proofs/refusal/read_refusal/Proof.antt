@@ -10,9 +10,6 @@ use Rattle.image.proofs.refusal.read_refusal.Tie as tie
 returns : tie.Need-returns
 returns c = let a = c .before .before .args in read-long (a .native) (a .image .now) (a .used) (c .if1 .taken)
 
-readable-requires : tie.Need-readable-requires
-readable-requires c κs = search needs
-
 returns-2 : tie.Need-returns-2
 returns-2 c = let a = c .before .before .before .before .args in read-bad (a .native) (a .image .now) (a .used) (c .before .before .if1 .left) (sym (c .before .readable .ensures) ∙ not-true _ (c .if2 .taken))
 
@@ -31,4 +28,4 @@ returns-4 c =
 
 pub read-refusal-spec : {M : Type 1} → statement M
 read-refusal-spec =
-    tie.close (tie.spec returns readable-requires returns-2 same-disk-requires returns-3 returns-4)
+    tie.close (tie.spec returns (λ c κs. search needs) returns-2 same-disk-requires returns-3 returns-4)

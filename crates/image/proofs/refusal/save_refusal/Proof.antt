@@ -8,9 +8,6 @@ use borrow.Author.Needs.{needs}
 use Rattle.image.proofs.refusal.save_refusal.Statement.{statement}
 use Rattle.image.proofs.refusal.save_refusal.Tie as tie
 
-read-refusal-requires : tie.Need-read-refusal-requires
-read-refusal-requires c κs = search needs
-
 returns : tie.Need-returns
 returns c =
     let a = c .before .before .before .args in
@@ -35,4 +32,4 @@ returns-3 c =
 
 pub save-refusal-spec : {M : Type 1} → statement M
 save-refusal-spec =
-    tie.close (tie.spec read-refusal-requires returns has-room-requires returns-2 returns-3)
+    tie.close (tie.spec (λ c κs. search needs) returns has-room-requires returns-2 returns-3)

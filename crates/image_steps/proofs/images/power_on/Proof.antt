@@ -8,9 +8,6 @@ use borrow.Author.Needs.{needs}
 use Rattle.image_steps.proofs.images.power_on.Statement.{statement}
 use Rattle.image_steps.proofs.images.power_on.Tie as tie
 
-power-on-refusal-requires : tie.Need-power-on-refusal-requires
-power-on-refusal-requires c κs = search needs
-
 returns : tie.Need-returns
 returns c =
     let at-power-on-refusal = c .before in
@@ -37,12 +34,6 @@ put-restored-requires c κs =
     let ok = power-on-passed (a .device .now) (a .area .now) (a .disk .now) (a .image .now) (a .used) (at-power-on-refusal .power-on-refusal .ensures (a .device .now) (a .area .now) (a .disk .now) refl refl refl) (at-if1 .if1 .left) in
     (ok .recordSized, ok .readable)
 
-same-length : tie.Need-same-length
-same-length c = search needs
-
-same-length-2 : tie.Need-same-length-2
-same-length-2 c = search needs
-
 returns-2 : tie.Need-returns-2
 returns-2 c =
     let at-before = c .before in
@@ -60,10 +51,10 @@ pub power-on-spec : {M : Type 1} → statement M
 power-on-spec =
     tie.close
     (tie.spec
-    power-on-refusal-requires
+    (λ c κs. search needs)
     returns
     zero-part-requires
     put-restored-requires
-    same-length
-    same-length-2
+    (λ c. search needs)
+    (λ c. search needs)
     returns-2)

@@ -15,9 +15,6 @@ returns-2 c =
     let entry = at-if1 .before .before in
     λ r a disk er ea ed. rw (er, eq-eqb (entry .args .device-len) recordSize (at-if1 .if1 .left), ea, ne-eqb (entry .args .area-len) privateSize (c .if2 .taken))
 
-is-whole-requires : tie.Need-is-whole-requires
-is-whole-requires c κs = search needs
-
 returns-3 : tie.Need-returns-3
 returns-3 c =
     let at-is-whole = c .before in
@@ -25,9 +22,6 @@ returns-3 c =
     let at-if1 = at-if2 .before in
     let entry = at-if1 .before .before in
     λ r a disk er ea ed. rw (er, eq-eqb (entry .args .device-len) recordSize (at-if1 .if1 .left), ea, eq-eqb (entry .args .area-len) privateSize (at-if2 .if2 .left), ed, failed (at-is-whole .is-whole .ensures) (c .if3 .taken))
-
-read-refusal-requires : tie.Need-read-refusal-requires
-read-refusal-requires c κs = search needs
 
 returns-4 : tie.Need-returns-4
 returns-4 c =
@@ -41,4 +35,4 @@ returns-4 c =
 pub power-on-refusal-spec : {M : Type 1} → statement M
 power-on-refusal-spec =
     tie.close
-    (tie.spec returns returns-2 is-whole-requires returns-3 read-refusal-requires returns-4)
+    (tie.spec returns returns-2 (λ c κs. search needs) returns-3 (λ c κs. search needs) returns-4)

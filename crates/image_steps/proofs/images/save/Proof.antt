@@ -6,12 +6,6 @@ use borrow.Author.Needs.{needs}
 use Rattle.image_steps.proofs.images.save.Statement.{statement}
 use Rattle.image_steps.proofs.images.save.Tie as tie
 
-save-refusal-requires : tie.Need-save-refusal-requires
-save-refusal-requires c κs = search needs
-
-same-length : tie.Need-same-length
-same-length c = search needs
-
 returns : tie.Need-returns
 returns c =
     let at-save-refusal = c .before in
@@ -28,9 +22,6 @@ put-entry-requires c κs =
     let number = ok .number in
     (ok .isSound, (omega (arith, room), omega (arith, number)))
 
-same-length-2 : tie.Need-same-length-2
-same-length-2 c = search needs
-
 returns-2 : tie.Need-returns-2
 returns-2 c =
     let at-before = c .before in
@@ -43,4 +34,4 @@ returns-2 c =
 pub save-spec : {M : Type 1} → statement M
 save-spec =
     tie.close
-    (tie.spec save-refusal-requires same-length returns put-entry-requires same-length-2 returns-2)
+    (tie.spec (λ c κs. search needs) (λ c. search needs) returns put-entry-requires (λ c. search needs) returns-2)

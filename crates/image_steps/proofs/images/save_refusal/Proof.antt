@@ -9,17 +9,11 @@ use borrow.Author.Needs.{needs}
 use Rattle.image_steps.proofs.images.save_refusal.Statement.{statement}
 use Rattle.image_steps.proofs.images.save_refusal.Tie as tie
 
-sound-requires : tie.Need-sound-requires
-sound-requires c κs = search needs
-
 returns : tie.Need-returns
 returns c = rw (failed (c .before .sound .ensures) (c .if1 .taken))
 
 native-at-requires : tie.Need-native-at-requires
 native-at-requires c κs = sound-parts (c .before .before .before .before .args .device .now) (passed (c .before .sound .ensures) (c .if1 .left)) .size
-
-save-refusal-requires : tie.Need-save-refusal-requires
-save-refusal-requires c κs = search needs
 
 returns-2 : tie.Need-returns-2
 returns-2 c =
@@ -31,4 +25,4 @@ returns-2 c =
 
 pub save-refusal-spec : {M : Type 1} → statement M
 save-refusal-spec =
-    tie.close (tie.spec sound-requires returns native-at-requires save-refusal-requires returns-2)
+    tie.close (tie.spec (λ c κs. search needs) returns native-at-requires (λ c κs. search needs) returns-2)

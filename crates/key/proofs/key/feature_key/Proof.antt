@@ -6,26 +6,11 @@ use borrow.Author.Needs.{needs}
 use Rattle.key.proofs.key.feature_key.Statement.{statement}
 use Rattle.key.proofs.key.feature_key.Tie as tie
 
-between-requires : tie.Need-between-requires
-between-requires c κs = search needs
-
 returns : tie.Need-returns
 returns c = λ k f n s o. rw (f, failed (c .before .between .ensures) (c .if1 .taken))
 
-between-requires-2 : tie.Need-between-requires-2
-between-requires-2 c κs = search needs
-
 returns-2 : tie.Need-returns-2
 returns-2 c = λ k f n s o. rw (f, passed (c .before .before .before .between .ensures) (c .before .before .if1 .left), n, failed (c .before .between2 .ensures) (c .if2 .taken))
-
-feature-name-requires : tie.Need-feature-name-requires
-feature-name-requires c κs = search needs
-
-highest-state-requires : tie.Need-highest-state-requires
-highest-state-requires c κs = search needs
-
-between-requires-3 : tie.Need-between-requires-3
-between-requires-3 c κs = search needs
 
 returns-3 : tie.Need-returns-3
 returns-3 c =
@@ -38,9 +23,6 @@ returns-3 c =
     let at-between = at-if1 .before in
     λ k f n s o.
     rw (f, passed (at-between .between .ensures) (at-if1 .if1 .left), n, passed (at-between2 .between2 .ensures) (at-if2 .if2 .left), eq-eqb _ _ (at-if3 .if3 .taken), s, ← at-highest-state .highest-state .ensures, failed (at-between3 .between3 .ensures) (c .if4 .taken))
-
-feature-set-requires : tie.Need-feature-set-requires
-feature-set-requires c κs = search needs
 
 returns-4 : tie.Need-returns-4
 returns-4 c = λ k f n s o.
@@ -63,9 +45,6 @@ returns-4 c = λ k f n s o.
     )
     (c .feature-set .ensures (patternSector k))
 
-feature-returned-requires : tie.Need-feature-returned-requires
-feature-returned-requires c κs = search needs
-
 returns-5 : tie.Need-returns-5
 returns-5 c = λ k f n s o.
     let at-if3 = c .before in
@@ -86,15 +65,15 @@ pub feature-key-spec : {M : Type 1} → statement M
 feature-key-spec =
     tie.close
     (tie.spec
-    between-requires
+    (λ c κs. search needs)
     returns
-    between-requires-2
+    (λ c κs. search needs)
     returns-2
-    feature-name-requires
-    highest-state-requires
-    between-requires-3
+    (λ c κs. search needs)
+    (λ c κs. search needs)
+    (λ c κs. search needs)
     returns-3
-    feature-set-requires
+    (λ c κs. search needs)
     returns-4
-    feature-returned-requires
+    (λ c κs. search needs)
     returns-5)

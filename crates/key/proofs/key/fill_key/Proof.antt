@@ -8,20 +8,11 @@ use borrow.Author.Needs.{needs}
 use Rattle.key.proofs.key.fill_key.Statement.{statement}
 use Rattle.key.proofs.key.fill_key.Tie as tie
 
-between-requires : tie.Need-between-requires
-between-requires c κs = search needs
-
 returns : tie.Need-returns
 returns c = λ k f s n. rw (f, failed (c .before .between .ensures) (c .if1 .taken))
 
-sub-last : tie.Need-sub-last
-sub-last c = search needs
-
 returns-2 : tie.Need-returns-2
 returns-2 c = λ k f s n. rw (f, passed (c .before .before .between .ensures) (c .before .if1 .left), s, lt-leb _ _ (c .if2 .taken))
-
-sum-within-requires : tie.Need-sum-within-requires
-sum-within-requires c κs = search needs
 
 returns-3 : tie.Need-returns-3
 returns-3 c = λ k f s n.
@@ -33,9 +24,6 @@ fill-end-requires c κs =
     let a = c .before .before .before .before .before .args in
     let h = leb-true (a .first + a .sectors) (a .visible - 1) (passed (c .before .sum-within .ensures) (c .if3 .left)) in
     omega (arith, h)
-
-fill-asked-requires : tie.Need-fill-asked-requires
-fill-asked-requires c κs = search needs
 
 returns-4 : tie.Need-returns-4
 returns-4 c = λ k f s n.
@@ -58,12 +46,12 @@ pub fill-key-spec : {M : Type 1} → statement M
 fill-key-spec =
     tie.close
     (tie.spec
-    between-requires
+    (λ c κs. search needs)
     returns
-    sub-last
+    (λ c. search needs)
     returns-2
-    sum-within-requires
+    (λ c κs. search needs)
     returns-3
     fill-end-requires
-    fill-asked-requires
+    (λ c κs. search needs)
     returns-4)

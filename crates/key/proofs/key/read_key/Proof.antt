@@ -16,39 +16,12 @@ returns c =
     λ d lock size.
     with-lock (a .locked) (a .visible) (part (a .area .now) (a .at) sectorSize) d lock size (c .if1 .taken)
 
-u16-at-requires : tie.Need-u16-at-requires
-u16-at-requires c κs = search needs
-
-between-requires : tie.Need-between-requires
-between-requires c κs = search needs
-
 returns-2 : tie.Need-returns-2
 returns-2 c =
     let a = c .before .before .before .before .before .args in
     λ d lock size.
     with-action (a .locked) (a .visible) (part (a .area .now) (a .at) sectorSize) d lock size (c .before .before .before .if1 .left)
     (rw (number-first 2 (a .area .now) (a .at) sectorSize (omega arith) (c .before .before .u16-at .ensures)) (failed (c .before .between .ensures) (c .if2 .taken)))
-
-add-u16-at : tie.Need-add-u16-at
-add-u16-at c = search needs
-
-u16-at-requires-2 : tie.Need-u16-at-requires-2
-u16-at-requires-2 c κs = search needs
-
-add-u64-at : tie.Need-add-u64-at
-add-u64-at c = search needs
-
-u64-at-requires : tie.Need-u64-at-requires
-u64-at-requires c κs = search needs
-
-add-u64-at-2 : tie.Need-add-u64-at-2
-add-u64-at-2 c = search needs
-
-u64-at-requires-2 : tie.Need-u64-at-requires-2
-u64-at-requires-2 c κs = search needs
-
-fill-key-requires : tie.Need-fill-key-requires
-fill-key-requires c κs = search needs
 
 returns-3 : tie.Need-returns-3
 returns-3 c =
@@ -67,21 +40,6 @@ returns-3 c =
     (number-of 8 (a .area .now) (a .at) sectorSize 12 (omega arith) (at-u64-at2 .u64-at2 .ensures))
     ∙ with-fill (a .locked) (a .visible) k d lock size (at-if1 .if1 .left) (number-first 2 (a .area .now) (a .at) sectorSize (omega arith) (at-u16-at .u16-at .ensures) ∙ at-if3 .if3 .taken)
 
-add-u16-at-2 : tie.Need-add-u16-at-2
-add-u16-at-2 c = search needs
-
-u16-at-requires-3 : tie.Need-u16-at-requires-3
-u16-at-requires-3 c κs = search needs
-
-add-u16-at-3 : tie.Need-add-u16-at-3
-add-u16-at-3 c = search needs
-
-u16-at-requires-4 : tie.Need-u16-at-requires-4
-u16-at-requires-4 c κs = search needs
-
-timer-key-requires : tie.Need-timer-key-requires
-timer-key-requires c κs = search needs
-
 returns-4 : tie.Need-returns-4
 returns-4 c =
     let at-if4 = c .before in
@@ -96,15 +54,6 @@ returns-4 c =
     λ d lock size.
     c .timer-key .ensures k (number-of 2 (a .area .now) (a .at) sectorSize 2 (omega arith) (at-u16-at2 .u16-at2 .ensures)) (number-of 2 (a .area .now) (a .at) sectorSize 4 (omega arith) (at-u16-at3 .u16-at3 .ensures)) (number-of 2 (a .area .now) (a .at) sectorSize 6 (omega arith) (at-u16-at4 .u16-at4 .ensures))
     ∙ with-timer (a .locked) (a .visible) k d lock size (at-if1 .if1 .left) (number-first 2 (a .area .now) (a .at) sectorSize (omega arith) (at-u16-at .u16-at .ensures) ∙ at-if4 .if4 .taken)
-
-add-u16-at-4 : tie.Need-add-u16-at-4
-add-u16-at-4 c = search needs
-
-u16-at-requires-5 : tie.Need-u16-at-requires-5
-u16-at-requires-5 c κs = search needs
-
-feature-key-requires : tie.Need-feature-key-requires
-feature-key-requires c κs = search needs
 
 returns-5 : tie.Need-returns-5
 returns-5 c =
@@ -122,9 +71,6 @@ returns-5 c =
     c .feature-key .ensures k (number-of 2 (a .area .now) (a .at) sectorSize 2 (omega arith) (at-u16-at2 .u16-at2 .ensures)) (number-of 2 (a .area .now) (a .at) sectorSize 4 (omega arith) (at-u16-at3 .u16-at3 .ensures)) (number-of 2 (a .area .now) (a .at) sectorSize 6 (omega arith) (at-u16-at4 .u16-at4 .ensures))
     (number-of 2 (a .area .now) (a .at) sectorSize 8 (omega arith) (at-u16-at5 .u16-at5 .ensures))
     ∙ with-feature (a .locked) (a .visible) k d lock size (at-if1 .if1 .left) (number-first 2 (a .area .now) (a .at) sectorSize (omega arith) (at-u16-at .u16-at .ensures) ∙ at-if5 .if5 .taken)
-
-table-key-requires : tie.Need-table-key-requires
-table-key-requires c κs = search needs
 
 returns-6 : tie.Need-returns-6
 returns-6 c =
@@ -153,26 +99,26 @@ read-key-spec =
     tie.close
     (tie.spec
     returns
-    u16-at-requires
-    between-requires
+    (λ c κs. search needs)
+    (λ c κs. search needs)
     returns-2
-    add-u16-at
-    u16-at-requires-2
-    add-u64-at
-    u64-at-requires
-    add-u64-at-2
-    u64-at-requires-2
-    fill-key-requires
+    (λ c. search needs)
+    (λ c κs. search needs)
+    (λ c. search needs)
+    (λ c κs. search needs)
+    (λ c. search needs)
+    (λ c κs. search needs)
+    (λ c κs. search needs)
     returns-3
-    add-u16-at-2
-    u16-at-requires-3
-    add-u16-at-3
-    u16-at-requires-4
-    timer-key-requires
+    (λ c. search needs)
+    (λ c κs. search needs)
+    (λ c. search needs)
+    (λ c κs. search needs)
+    (λ c κs. search needs)
     returns-4
-    add-u16-at-4
-    u16-at-requires-5
-    feature-key-requires
+    (λ c. search needs)
+    (λ c κs. search needs)
+    (λ c κs. search needs)
     returns-5
-    table-key-requires
+    (λ c κs. search needs)
     returns-6)

@@ -4,11 +4,8 @@ use borrow.Author.Needs.{needs}
 use Rattle.key.proofs.key.sum_within.Statement.{statement}
 use Rattle.key.proofs.key.sum_within.Tie as tie
 
-sub-result : tie.Need-sub-result
-sub-result c = search needs
-
 returns : tie.Need-returns
 returns c = sum-test (c .args .first) (c .args .sectors) (c .args .last) (c .pre)
 
 pub sum-within-spec : {M : Type 1} → statement M
-sum-within-spec = tie.close (tie.spec sub-result returns)
+sum-within-spec = tie.close (tie.spec (λ c. search needs) returns)

@@ -8,26 +8,11 @@ use borrow.Author.Needs.{needs}
 use Rattle.key.proofs.key.timer_key.Statement.{statement}
 use Rattle.key.proofs.key.timer_key.Tie as tie
 
-between-requires : tie.Need-between-requires
-between-requires c κs = search needs
-
 returns : tie.Need-returns
 returns c = λ k f n t. rw (f, failed (c .before .between .ensures) (c .if1 .taken))
 
-between-requires-2 : tie.Need-between-requires-2
-between-requires-2 c κs = search needs
-
 returns-2 : tie.Need-returns-2
 returns-2 c = λ k f n t. rw (f, passed (c .before .before .before .between .ensures) (c .before .before .if1 .left), n, failed (c .before .between2 .ensures) (c .if2 .taken))
-
-timer-name-requires : tie.Need-timer-name-requires
-timer-name-requires c κs = search needs
-
-between-requires-3 : tie.Need-between-requires-3
-between-requires-3 c κs = search needs
-
-timer-code-requires : tie.Need-timer-code-requires
-timer-code-requires c κs = search needs
 
 returns-3 : tie.Need-returns-3
 returns-3 c =
@@ -55,13 +40,13 @@ pub timer-key-spec : {M : Type 1} → statement M
 timer-key-spec =
     tie.close
     (tie.spec
-    between-requires
+    (λ c κs. search needs)
     returns
-    between-requires-2
+    (λ c κs. search needs)
     returns-2
-    timer-name-requires
-    between-requires-3
-    timer-code-requires
+    (λ c κs. search needs)
+    (λ c κs. search needs)
+    (λ c κs. search needs)
     returns-3
     returns-4
     returns-5)

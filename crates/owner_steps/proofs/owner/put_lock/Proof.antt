@@ -12,12 +12,6 @@ use borrow.Author.Needs.{needs}
 use Rattle.owner_steps.proofs.owner.put_lock.Statement.{statement}
 use Rattle.owner_steps.proofs.owner.put_lock.Tie as tie
 
-sound-requires : tie.Need-sound-requires
-sound-requires c κs = search needs
-
-same-length : tie.Need-same-length
-same-length c = search needs
-
 returns : tie.Need-returns
 returns c = rw (failed (c .before .sound .ensures) (c .if1 .taken)) (refl, refl)
 
@@ -37,9 +31,6 @@ write-requires c κs =
     let entry = known .before in
     sound-framed (entry .args .device .now) (λ i. omega (arith, known .slice-known .given i)) (passed (at-sound .sound .ensures) (at-if1 .if1 .left))
 
-same-length-2 : tie.Need-same-length-2
-same-length-2 c = search needs
-
 returns-2 : tie.Need-returns-2
 returns-2 c =
     let at-before = c .before in
@@ -56,11 +47,11 @@ pub put-lock-spec : {M : Type 1} → statement M
 put-lock-spec =
     tie.close
     (tie.spec
-    sound-requires
-    same-length
+    (λ c κs. search needs)
+    (λ c. search needs)
     returns
     decode-requires
     set-lock-requires
     write-requires
-    same-length-2
+    (λ c. search needs)
     returns-2)

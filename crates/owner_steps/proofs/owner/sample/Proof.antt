@@ -6,12 +6,6 @@ use borrow.Author.Needs.{needs}
 use Rattle.owner_steps.proofs.owner.sample.Statement.{statement}
 use Rattle.owner_steps.proofs.owner.sample.Tie as tie
 
-sound-requires : tie.Need-sound-requires
-sound-requires c κs = search needs
-
-same-length : tie.Need-same-length
-same-length c = search needs
-
 returns : tie.Need-returns
 unfolding sampleBytes
 returns c = rw (failed (c .before .sound .ensures) (c .if1 .taken)) (refl, refl)
@@ -19,13 +13,10 @@ returns c = rw (failed (c .before .sound .ensures) (c .if1 .taken)) (refl, refl)
 sample-requires : tie.Need-sample-requires
 sample-requires c κs = passed (c .before .before .sound .ensures) (c .before .if1 .left)
 
-same-length-2 : tie.Need-same-length-2
-same-length-2 c = search needs
-
 returns-2 : tie.Need-returns-2
 unfolding sampleBytes
 returns-2 c = rw (passed (c .before .before .before .before .before .sound .ensures) (c .before .before .before .before .if1 .left)) (refl, c .before .before .sample .ensures)
 
 pub sample-spec : {M : Type 1} → statement M
 sample-spec =
-    tie.close (tie.spec sound-requires same-length returns sample-requires same-length-2 returns-2)
+    tie.close (tie.spec (λ c κs. search needs) (λ c. search needs) returns sample-requires (λ c. search needs) returns-2)

@@ -13,12 +13,6 @@ use borrow.Author.Needs.{needs}
 use Rattle.owner_steps.proofs.owner.set_visible.Statement.{statement}
 use Rattle.owner_steps.proofs.owner.set_visible.Tie as tie
 
-visible-refusal-requires : tie.Need-visible-refusal-requires
-visible-refusal-requires c κs = search needs
-
-same-length : tie.Need-same-length
-same-length c = search needs
-
 returns : tie.Need-returns
 unfolding setVisibleBytes
 returns c =
@@ -47,9 +41,6 @@ write-requires c κs =
     let entry = known .before in
     sound-framed (entry .args .device .now) (λ i. omega (arith, known .slice-known .given i)) (visible-passed (entry .args .device .now) (entry .args .v) (at-visible-refusal .visible-refusal .ensures) (at-if1 .if1 .left))
 
-same-length-2 : tie.Need-same-length-2
-same-length-2 c = search needs
-
 returns-2 : tie.Need-returns-2
 unfolding setVisibleBytes
 returns-2 c =
@@ -67,11 +58,11 @@ pub set-visible-spec : {M : Type 1} → statement M
 set-visible-spec =
     tie.close
     (tie.spec
-    visible-refusal-requires
-    same-length
+    (λ c κs. search needs)
+    (λ c. search needs)
     returns
     decode-requires
     set-visible-requires
     write-requires
-    same-length-2
+    (λ c. search needs)
     returns-2)

@@ -8,9 +8,6 @@ use borrow.Author.Needs.{needs}
 use Rattle.owner_steps.proofs.owner.visible_refusal.Statement.{statement}
 use Rattle.owner_steps.proofs.owner.visible_refusal.Tie as tie
 
-sound-requires : tie.Need-sound-requires
-sound-requires c κs = search needs
-
 returns : tie.Need-returns
 returns c = rw (failed (c .before .sound .ensures) (c .if1 .taken))
 
@@ -35,4 +32,4 @@ returns-3 c =
 
 pub visible-refusal-spec : {M : Type 1} → statement M
 visible-refusal-spec =
-    tie.close (tie.spec sound-requires returns native-at-requires returns-2 returns-3)
+    tie.close (tie.spec (λ c κs. search needs) returns native-at-requires returns-2 returns-3)

@@ -4,12 +4,9 @@ use borrow.Author.Needs.{needs}
 use Rattle.record.proofs.codec.code_at.Statement.{statement}
 use Rattle.record.proofs.codec.code_at.Tie as tie
 
-u16-at-requires : tie.Need-u16-at-requires
-u16-at-requires c κs = search needs
-
 returns : tie.Need-returns
 unfolding decode
 returns c = c .u16-at .ensures
 
 pub code-at-spec : {M : Type 1} → statement M
-code-at-spec = tie.close (tie.spec u16-at-requires returns)
+code-at-spec = tie.close (tie.spec (λ c κs. search needs) returns)

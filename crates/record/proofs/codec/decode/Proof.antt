@@ -6,36 +6,6 @@ use borrow.Author.Needs.{needs}
 use Rattle.record.proofs.codec.decode.Statement.{statement}
 use Rattle.record.proofs.codec.decode.Tie as tie
 
-native-at-requires : tie.Need-native-at-requires
-native-at-requires c κs = search needs
-
-visible-at-requires : tie.Need-visible-at-requires
-visible-at-requires c κs = search needs
-
-flag-at-requires : tie.Need-flag-at-requires
-flag-at-requires c κs = search needs
-
-flag-at-requires-2 : tie.Need-flag-at-requires-2
-flag-at-requires-2 c κs = search needs
-
-command-at-requires : tie.Need-command-at-requires
-command-at-requires c κs = search needs
-
-settings-at-requires : tie.Need-settings-at-requires
-settings-at-requires c κs = search needs
-
-thermal-at-requires : tie.Need-thermal-at-requires
-thermal-at-requires c κs = search needs
-
-slot-at-requires : tie.Need-slot-at-requires
-slot-at-requires c κs = search needs
-
-slot-at-requires-2 : tie.Need-slot-at-requires-2
-slot-at-requires-2 c κs = search needs
-
-slot-at-requires-3 : tie.Need-slot-at-requires-3
-slot-at-requires-3 c κs = search needs
-
 slot-at-requires-4 : tie.Need-slot-at-requires-4
 slot-at-requires-4 c κs = (c .before .before .before .before .before .before .before .before .before .before .before .pre, omega arith)
 
@@ -78,15 +48,15 @@ pub decode-spec : {M : Type 1} → statement M
 decode-spec =
     tie.close
     (tie.spec
-    native-at-requires
-    visible-at-requires
-    flag-at-requires
-    flag-at-requires-2
-    command-at-requires
-    settings-at-requires
-    thermal-at-requires
-    slot-at-requires
-    slot-at-requires-2
-    slot-at-requires-3
+    (λ c κs. search needs)
+    (λ c κs. search needs)
+    (λ c κs. search needs)
+    (λ c κs. search needs)
+    (λ c κs. search needs)
+    (λ c κs. search needs)
+    (λ c κs. search needs)
+    (λ c κs. search needs)
+    (λ c κs. search needs)
+    (λ c κs. search needs)
     slot-at-requires-4
     returns)

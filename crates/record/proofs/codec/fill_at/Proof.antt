@@ -5,21 +5,6 @@ use borrow.Author.Needs.{needs}
 use Rattle.record.proofs.codec.fill_at.Statement.{statement}
 use Rattle.record.proofs.codec.fill_at.Tie as tie
 
-u8-at-requires : tie.Need-u8-at-requires
-u8-at-requires c κs = search needs
-
-u64-at-requires : tie.Need-u64-at-requires
-u64-at-requires c κs = search needs
-
-u64-at-requires-2 : tie.Need-u64-at-requires-2
-u64-at-requires-2 c κs = search needs
-
-u64-at-requires-3 : tie.Need-u64-at-requires-3
-u64-at-requires-3 c κs = search needs
-
-fill-of-requires : tie.Need-fill-of-requires
-fill-of-requires c κs = search needs
-
 returns : tie.Need-returns
 unfolding decode
 returns c =
@@ -32,9 +17,9 @@ pub fill-at-spec : {M : Type 1} → statement M
 fill-at-spec =
     tie.close
     (tie.spec
-    u8-at-requires
-    u64-at-requires
-    u64-at-requires-2
-    u64-at-requires-3
-    fill-of-requires
+    (λ c κs. search needs)
+    (λ c κs. search needs)
+    (λ c κs. search needs)
+    (λ c κs. search needs)
+    (λ c κs. search needs)
     returns)

@@ -5,11 +5,8 @@ use borrow.Author.Needs.{needs}
 use Rattle.record.proofs.codec.flag_at.Statement.{statement}
 use Rattle.record.proofs.codec.flag_at.Tie as tie
 
-u8-at-requires : tie.Need-u8-at-requires
-u8-at-requires c κs = search needs
-
 returns : tie.Need-returns
 returns c = ap flagOf (c .u8-at .ensures)
 
 pub flag-at-spec : {M : Type 1} → statement M
-flag-at-spec = tie.close (tie.spec u8-at-requires returns)
+flag-at-spec = tie.close (tie.spec (λ c κs. search needs) returns)

@@ -4,12 +4,9 @@ use borrow.Author.Needs.{needs}
 use Rattle.record.proofs.codec.native_at.Statement.{statement}
 use Rattle.record.proofs.codec.native_at.Tie as tie
 
-u64-at-requires : tie.Need-u64-at-requires
-u64-at-requires c κs = search needs
-
 returns : tie.Need-returns
 unfolding decode
 returns c = c .u64-at .ensures
 
 pub native-at-spec : {M : Type 1} → statement M
-native-at-spec = tie.close (tie.spec u64-at-requires returns)
+native-at-spec = tie.close (tie.spec (λ c κs. search needs) returns)

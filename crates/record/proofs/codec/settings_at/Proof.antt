@@ -4,30 +4,6 @@ use borrow.Author.Needs.{needs}
 use Rattle.record.proofs.codec.settings_at.Statement.{statement}
 use Rattle.record.proofs.codec.settings_at.Tie as tie
 
-u16-at-requires : tie.Need-u16-at-requires
-u16-at-requires c κs = search needs
-
-flag-at-requires : tie.Need-flag-at-requires
-flag-at-requires c κs = search needs
-
-u16-at-requires-2 : tie.Need-u16-at-requires-2
-u16-at-requires-2 c κs = search needs
-
-flag-at-requires-2 : tie.Need-flag-at-requires-2
-flag-at-requires-2 c κs = search needs
-
-u16-at-requires-3 : tie.Need-u16-at-requires-3
-u16-at-requires-3 c κs = search needs
-
-flag-at-requires-3 : tie.Need-flag-at-requires-3
-flag-at-requires-3 c κs = search needs
-
-u16-at-requires-4 : tie.Need-u16-at-requires-4
-u16-at-requires-4 c κs = search needs
-
-u16-at-requires-5 : tie.Need-u16-at-requires-5
-u16-at-requires-5 c κs = search needs
-
 returns : tie.Need-returns
 unfolding decode
 returns c =
@@ -51,12 +27,12 @@ pub settings-at-spec : {M : Type 1} → statement M
 settings-at-spec =
     tie.close
     (tie.spec
-    u16-at-requires
-    flag-at-requires
-    u16-at-requires-2
-    flag-at-requires-2
-    u16-at-requires-3
-    flag-at-requires-3
-    u16-at-requires-4
-    u16-at-requires-5
+    (λ c κs. search needs)
+    (λ c κs. search needs)
+    (λ c κs. search needs)
+    (λ c κs. search needs)
+    (λ c κs. search needs)
+    (λ c κs. search needs)
+    (λ c κs. search needs)
+    (λ c κs. search needs)
     returns)

@@ -5,21 +5,6 @@ use borrow.Author.Needs.{needs}
 use Rattle.record.proofs.codec.thermal_at.Statement.{statement}
 use Rattle.record.proofs.codec.thermal_at.Tie as tie
 
-u8-at-requires : tie.Need-u8-at-requires
-u8-at-requires c κs = search needs
-
-u8-at-requires-2 : tie.Need-u8-at-requires-2
-u8-at-requires-2 c κs = search needs
-
-u8-at-requires-3 : tie.Need-u8-at-requires-3
-u8-at-requires-3 c κs = search needs
-
-u16-at-requires : tie.Need-u16-at-requires
-u16-at-requires c κs = search needs
-
-u16-at-requires-2 : tie.Need-u16-at-requires-2
-u16-at-requires-2 c κs = search needs
-
 returns : tie.Need-returns
 unfolding decode
 returns c =
@@ -42,9 +27,9 @@ pub thermal-at-spec : {M : Type 1} → statement M
 thermal-at-spec =
     tie.close
     (tie.spec
-    u8-at-requires
-    u8-at-requires-2
-    u8-at-requires-3
-    u16-at-requires
-    u16-at-requires-2
+    (λ c κs. search needs)
+    (λ c κs. search needs)
+    (λ c κs. search needs)
+    (λ c κs. search needs)
+    (λ c κs. search needs)
     returns)

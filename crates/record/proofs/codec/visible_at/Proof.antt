@@ -4,12 +4,9 @@ use borrow.Author.Needs.{needs}
 use Rattle.record.proofs.codec.visible_at.Statement.{statement}
 use Rattle.record.proofs.codec.visible_at.Tie as tie
 
-u64-at-requires : tie.Need-u64-at-requires
-u64-at-requires c κs = search needs
-
 returns : tie.Need-returns
 unfolding decode
 returns c = c .u64-at .ensures
 
 pub visible-at-spec : {M : Type 1} → statement M
-visible-at-spec = tie.close (tie.spec u64-at-requires returns)
+visible-at-spec = tie.close (tie.spec (λ c κs. search needs) returns)

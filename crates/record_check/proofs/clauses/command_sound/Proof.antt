@@ -5,21 +5,6 @@ use borrow.Author.Needs.{needs}
 use Rattle.record_check.proofs.clauses.command_sound.Statement.{statement}
 use Rattle.record_check.proofs.clauses.command_sound.Tie as tie
 
-fill-at-requires : tie.Need-fill-at-requires
-fill-at-requires c κs = search needs
-
-code-at-requires : tie.Need-code-at-requires
-code-at-requires c κs = search needs
-
-fill-sound-requires : tie.Need-fill-sound-requires
-fill-sound-requires c κs = search needs
-
-limit-of-requires : tie.Need-limit-of-requires
-limit-of-requires c κs = search needs
-
-pending-sound-requires : tie.Need-pending-sound-requires
-pending-sound-requires c κs = search needs
-
 returns : tie.Need-returns
 returns c =
     let at-limit-of = c .before in
@@ -34,9 +19,9 @@ pub command-sound-spec : {M : Type 1} → statement M
 command-sound-spec =
     tie.close
     (tie.spec
-    fill-at-requires
-    code-at-requires
-    fill-sound-requires
-    limit-of-requires
-    pending-sound-requires
+    (λ c κs. search needs)
+    (λ c κs. search needs)
+    (λ c κs. search needs)
+    (λ c κs. search needs)
+    (λ c κs. search needs)
     returns)

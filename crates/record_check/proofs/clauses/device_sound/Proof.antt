@@ -5,27 +5,6 @@ use borrow.Author.Needs.{needs}
 use Rattle.record_check.proofs.clauses.device_sound.Statement.{statement}
 use Rattle.record_check.proofs.clauses.device_sound.Tie as tie
 
-native-at-requires : tie.Need-native-at-requires
-native-at-requires c κs = search needs
-
-visible-at-requires : tie.Need-visible-at-requires
-visible-at-requires c κs = search needs
-
-settings-at-requires : tie.Need-settings-at-requires
-settings-at-requires c κs = search needs
-
-command-sound-requires : tie.Need-command-sound-requires
-command-sound-requires c κs = search needs
-
-settings-sound-requires : tie.Need-settings-sound-requires
-settings-sound-requires c κs = search needs
-
-u16-at-requires : tie.Need-u16-at-requires
-u16-at-requires c κs = search needs
-
-u16-at-requires-2 : tie.Need-u16-at-requires-2
-u16-at-requires-2 c κs = search needs
-
 returns : tie.Need-returns
 unfolding decode
 returns c =
@@ -42,11 +21,11 @@ pub device-sound-spec : {M : Type 1} → statement M
 device-sound-spec =
     tie.close
     (tie.spec
-    native-at-requires
-    visible-at-requires
-    settings-at-requires
-    command-sound-requires
-    settings-sound-requires
-    u16-at-requires
-    u16-at-requires-2
+    (λ c κs. search needs)
+    (λ c κs. search needs)
+    (λ c κs. search needs)
+    (λ c κs. search needs)
+    (λ c κs. search needs)
+    (λ c κs. search needs)
+    (λ c κs. search needs)
     returns)

@@ -5,51 +5,6 @@ use borrow.Author.Needs.{needs}
 use Rattle.record_check.proofs.clauses.pending_sound.Statement.{statement}
 use Rattle.record_check.proofs.clauses.pending_sound.Tie as tie
 
-transfer-at-requires : tie.Need-transfer-at-requires
-transfer-at-requires c κs = search needs
-
-transfer-at-requires-2 : tie.Need-transfer-at-requires-2
-transfer-at-requires-2 c κs = search needs
-
-transfer-at-requires-3 : tie.Need-transfer-at-requires-3
-transfer-at-requires-3 c κs = search needs
-
-transfer-at-requires-4 : tie.Need-transfer-at-requires-4
-transfer-at-requires-4 c κs = search needs
-
-transfer-sound-requires : tie.Need-transfer-sound-requires
-transfer-sound-requires c κs = search needs
-
-transfer-sound-requires-2 : tie.Need-transfer-sound-requires-2
-transfer-sound-requires-2 c κs = search needs
-
-transfer-sound-requires-3 : tie.Need-transfer-sound-requires-3
-transfer-sound-requires-3 c κs = search needs
-
-transfer-sound-requires-4 : tie.Need-transfer-sound-requires-4
-transfer-sound-requires-4 c κs = search needs
-
-count-of-requires : tie.Need-count-of-requires
-count-of-requires c κs = search needs
-
-count-of-requires-2 : tie.Need-count-of-requires-2
-count-of-requires-2 c κs = search needs
-
-add-result : tie.Need-add-result
-add-result c = search needs
-
-count-of-requires-3 : tie.Need-count-of-requires-3
-count-of-requires-3 c κs = search needs
-
-add-result-2 : tie.Need-add-result-2
-add-result-2 c = search needs
-
-count-of-requires-4 : tie.Need-count-of-requires-4
-count-of-requires-4 c κs = search needs
-
-add-result-3 : tie.Need-add-result-3
-add-result-3 c = search needs
-
 returns : tie.Need-returns
 unfolding decode
 returns c =
@@ -87,19 +42,19 @@ pub pending-sound-spec : {M : Type 1} → statement M
 pending-sound-spec =
     tie.close
     (tie.spec
-    transfer-at-requires
-    transfer-at-requires-2
-    transfer-at-requires-3
-    transfer-at-requires-4
-    transfer-sound-requires
-    transfer-sound-requires-2
-    transfer-sound-requires-3
-    transfer-sound-requires-4
-    count-of-requires
-    count-of-requires-2
-    add-result
-    count-of-requires-3
-    add-result-2
-    count-of-requires-4
-    add-result-3
+    (λ c κs. search needs)
+    (λ c κs. search needs)
+    (λ c κs. search needs)
+    (λ c κs. search needs)
+    (λ c κs. search needs)
+    (λ c κs. search needs)
+    (λ c κs. search needs)
+    (λ c κs. search needs)
+    (λ c κs. search needs)
+    (λ c κs. search needs)
+    (λ c. search needs)
+    (λ c κs. search needs)
+    (λ c. search needs)
+    (λ c κs. search needs)
+    (λ c. search needs)
     returns)

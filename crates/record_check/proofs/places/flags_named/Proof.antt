@@ -4,21 +4,6 @@ use borrow.Author.Needs.{needs}
 use Rattle.record_check.proofs.places.flags_named.Statement.{statement}
 use Rattle.record_check.proofs.places.flags_named.Tie as tie
 
-flag-named-requires : tie.Need-flag-named-requires
-flag-named-requires c κs = search needs
-
-flag-named-requires-2 : tie.Need-flag-named-requires-2
-flag-named-requires-2 c κs = search needs
-
-flag-named-requires-3 : tie.Need-flag-named-requires-3
-flag-named-requires-3 c κs = search needs
-
-flag-named-requires-4 : tie.Need-flag-named-requires-4
-flag-named-requires-4 c κs = search needs
-
-flag-named-requires-5 : tie.Need-flag-named-requires-5
-flag-named-requires-5 c κs = search needs
-
 returns : tie.Need-returns
 unfolding flagsNamed
 returns c =
@@ -38,9 +23,9 @@ pub flags-named-spec : {M : Type 1} → statement M
 flags-named-spec =
     tie.close
     (tie.spec
-    flag-named-requires
-    flag-named-requires-2
-    flag-named-requires-3
-    flag-named-requires-4
-    flag-named-requires-5
+    (λ c κs. search needs)
+    (λ c κs. search needs)
+    (λ c κs. search needs)
+    (λ c κs. search needs)
+    (λ c κs. search needs)
     returns)

@@ -3,18 +3,6 @@ use borrow.Author.Needs.{needs}
 use Rattle.record_check.proofs.places.slots_named.Statement.{statement}
 use Rattle.record_check.proofs.places.slots_named.Tie as tie
 
-slot-named-requires : tie.Need-slot-named-requires
-slot-named-requires c κs = search needs
-
-slot-named-requires-2 : tie.Need-slot-named-requires-2
-slot-named-requires-2 c κs = search needs
-
-slot-named-requires-3 : tie.Need-slot-named-requires-3
-slot-named-requires-3 c κs = search needs
-
-slot-named-requires-4 : tie.Need-slot-named-requires-4
-slot-named-requires-4 c κs = search needs
-
 returns : tie.Need-returns
 returns c =
     rw (
@@ -28,8 +16,8 @@ pub slots-named-spec : {M : Type 1} → statement M
 slots-named-spec =
     tie.close
     (tie.spec
-    slot-named-requires
-    slot-named-requires-2
-    slot-named-requires-3
-    slot-named-requires-4
+    (λ c κs. search needs)
+    (λ c κs. search needs)
+    (λ c κs. search needs)
+    (λ c κs. search needs)
     returns)

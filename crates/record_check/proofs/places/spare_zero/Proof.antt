@@ -4,30 +4,6 @@ use borrow.Author.Needs.{needs}
 use Rattle.record_check.proofs.places.spare_zero.Statement.{statement}
 use Rattle.record_check.proofs.places.spare_zero.Tie as tie
 
-is-zero-requires : tie.Need-is-zero-requires
-is-zero-requires c κs = search needs
-
-is-zero-requires-2 : tie.Need-is-zero-requires-2
-is-zero-requires-2 c κs = search needs
-
-is-zero-requires-3 : tie.Need-is-zero-requires-3
-is-zero-requires-3 c κs = search needs
-
-is-zero-requires-4 : tie.Need-is-zero-requires-4
-is-zero-requires-4 c κs = search needs
-
-is-zero-requires-5 : tie.Need-is-zero-requires-5
-is-zero-requires-5 c κs = search needs
-
-is-zero-requires-6 : tie.Need-is-zero-requires-6
-is-zero-requires-6 c κs = search needs
-
-is-zero-requires-7 : tie.Need-is-zero-requires-7
-is-zero-requires-7 c κs = search needs
-
-is-zero-requires-8 : tie.Need-is-zero-requires-8
-is-zero-requires-8 c κs = search needs
-
 returns : tie.Need-returns
 returns c =
     let at-is-zero7 = c .before in
@@ -53,12 +29,12 @@ pub spare-zero-spec : {M : Type 1} → statement M
 spare-zero-spec =
     tie.close
     (tie.spec
-    is-zero-requires
-    is-zero-requires-2
-    is-zero-requires-3
-    is-zero-requires-4
-    is-zero-requires-5
-    is-zero-requires-6
-    is-zero-requires-7
-    is-zero-requires-8
+    (λ c κs. search needs)
+    (λ c κs. search needs)
+    (λ c κs. search needs)
+    (λ c κs. search needs)
+    (λ c κs. search needs)
+    (λ c κs. search needs)
+    (λ c κs. search needs)
+    (λ c κs. search needs)
     returns)

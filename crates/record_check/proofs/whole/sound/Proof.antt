@@ -11,24 +11,6 @@ returns : tie.Need-returns
 unfolding sound
 returns c = rw (ne-eqb _ _ (c .if1 .taken))
 
-spare-zero-requires : tie.Need-spare-zero-requires
-spare-zero-requires c κs = search needs
-
-flags-named-requires : tie.Need-flags-named-requires
-flags-named-requires c κs = search needs
-
-fill-named-requires : tie.Need-fill-named-requires
-fill-named-requires c κs = search needs
-
-slots-named-requires : tie.Need-slots-named-requires
-slots-named-requires c κs = search needs
-
-table-fixed-requires : tie.Need-table-fixed-requires
-table-fixed-requires c κs = search needs
-
-device-sound-requires : tie.Need-device-sound-requires
-device-sound-requires c κs = search needs
-
 returns-2 : tie.Need-returns-2
 returns-2 c =
     let at-table-fixed = c .before in
@@ -48,10 +30,10 @@ sound-spec =
     tie.close
     (tie.spec
     returns
-    spare-zero-requires
-    flags-named-requires
-    fill-named-requires
-    slots-named-requires
-    table-fixed-requires
-    device-sound-requires
+    (λ c κs. search needs)
+    (λ c κs. search needs)
+    (λ c κs. search needs)
+    (λ c κs. search needs)
+    (λ c κs. search needs)
+    (λ c κs. search needs)
     returns-2)

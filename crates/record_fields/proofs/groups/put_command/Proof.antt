@@ -4,24 +4,6 @@ use borrow.Author.Needs.{needs}
 use Rattle.record_fields.proofs.groups.put_command.Statement.{statement}
 use Rattle.record_fields.proofs.groups.put_command.Tie as tie
 
-fill-kind-requires : tie.Need-fill-kind-requires
-fill-kind-requires c κs = search needs
-
-put-u8-requires : tie.Need-put-u8-requires
-put-u8-requires c κs = search needs
-
-put-u16-requires : tie.Need-put-u16-requires
-put-u16-requires c κs = search needs
-
-put-u16-requires-2 : tie.Need-put-u16-requires-2
-put-u16-requires-2 c κs = search needs
-
-put-u16-requires-3 : tie.Need-put-u16-requires-3
-put-u16-requires-3 c κs = search needs
-
-same-length : tie.Need-same-length
-same-length c = search needs
-
 returns : tie.Need-returns
 returns c =
     let at-put-u163 = c .before .before in
@@ -44,10 +26,10 @@ pub put-command-spec : {M : Type 1} → statement M
 put-command-spec =
     tie.close
     (tie.spec
-    fill-kind-requires
-    put-u8-requires
-    put-u16-requires
-    put-u16-requires-2
-    put-u16-requires-3
-    same-length
+    (λ c κs. search needs)
+    (λ c κs. search needs)
+    (λ c κs. search needs)
+    (λ c κs. search needs)
+    (λ c κs. search needs)
+    (λ c. search needs)
     returns)

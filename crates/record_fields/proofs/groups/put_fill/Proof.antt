@@ -4,27 +4,6 @@ use borrow.Author.Needs.{needs}
 use Rattle.record_fields.proofs.groups.put_fill.Statement.{statement}
 use Rattle.record_fields.proofs.groups.put_fill.Tie as tie
 
-fill-first-requires : tie.Need-fill-first-requires
-fill-first-requires c κs = search needs
-
-put-u64-requires : tie.Need-put-u64-requires
-put-u64-requires c κs = search needs
-
-next-sector-requires : tie.Need-next-sector-requires
-next-sector-requires c κs = search needs
-
-put-u64-requires-2 : tie.Need-put-u64-requires-2
-put-u64-requires-2 c κs = search needs
-
-fill-end-requires : tie.Need-fill-end-requires
-fill-end-requires c κs = search needs
-
-put-u64-requires-3 : tie.Need-put-u64-requires-3
-put-u64-requires-3 c κs = search needs
-
-same-length : tie.Need-same-length
-same-length c = search needs
-
 returns : tie.Need-returns
 returns c =
     let at-put-u643 = c .before .before in
@@ -56,11 +35,11 @@ pub put-fill-spec : {M : Type 1} → statement M
 put-fill-spec =
     tie.close
     (tie.spec
-    fill-first-requires
-    put-u64-requires
-    next-sector-requires
-    put-u64-requires-2
-    fill-end-requires
-    put-u64-requires-3
-    same-length
+    (λ c κs. search needs)
+    (λ c κs. search needs)
+    (λ c κs. search needs)
+    (λ c κs. search needs)
+    (λ c κs. search needs)
+    (λ c κs. search needs)
+    (λ c. search needs)
     returns)

@@ -4,39 +4,6 @@ use borrow.Author.Needs.{needs}
 use Rattle.record_fields.proofs.groups.put_settings.Statement.{statement}
 use Rattle.record_fields.proofs.groups.put_settings.Tie as tie
 
-put-u16-requires : tie.Need-put-u16-requires
-put-u16-requires c κs = search needs
-
-put-u16-requires-2 : tie.Need-put-u16-requires-2
-put-u16-requires-2 c κs = search needs
-
-put-u16-requires-3 : tie.Need-put-u16-requires-3
-put-u16-requires-3 c κs = search needs
-
-put-u16-requires-4 : tie.Need-put-u16-requires-4
-put-u16-requires-4 c κs = search needs
-
-bit-of-requires : tie.Need-bit-of-requires
-bit-of-requires c κs = search needs
-
-put-u8-requires : tie.Need-put-u8-requires
-put-u8-requires c κs = search needs
-
-bit-of-requires-2 : tie.Need-bit-of-requires-2
-bit-of-requires-2 c κs = search needs
-
-put-u8-requires-2 : tie.Need-put-u8-requires-2
-put-u8-requires-2 c κs = search needs
-
-bit-of-requires-3 : tie.Need-bit-of-requires-3
-bit-of-requires-3 c κs = search needs
-
-put-u8-requires-3 : tie.Need-put-u8-requires-3
-put-u8-requires-3 c κs = search needs
-
-same-length : tie.Need-same-length
-same-length c = search needs
-
 returns : tie.Need-returns
 returns c =
     let at-put-u83 = c .before .before in
@@ -78,15 +45,15 @@ pub put-settings-spec : {M : Type 1} → statement M
 put-settings-spec =
     tie.close
     (tie.spec
-    put-u16-requires
-    put-u16-requires-2
-    put-u16-requires-3
-    put-u16-requires-4
-    bit-of-requires
-    put-u8-requires
-    bit-of-requires-2
-    put-u8-requires-2
-    bit-of-requires-3
-    put-u8-requires-3
-    same-length
+    (λ c κs. search needs)
+    (λ c κs. search needs)
+    (λ c κs. search needs)
+    (λ c κs. search needs)
+    (λ c κs. search needs)
+    (λ c κs. search needs)
+    (λ c κs. search needs)
+    (λ c κs. search needs)
+    (λ c κs. search needs)
+    (λ c κs. search needs)
+    (λ c. search needs)
     returns)

@@ -7,24 +7,6 @@ use borrow.Author.Needs.{needs}
 use Rattle.record_write.proofs.fields.write.Statement.{statement}
 use Rattle.record_write.proofs.fields.write.Tie as tie
 
-put-sizes-requires : tie.Need-put-sizes-requires
-put-sizes-requires c κs = search needs
-
-put-command-requires : tie.Need-put-command-requires
-put-command-requires c κs = search needs
-
-put-settings-requires : tie.Need-put-settings-requires
-put-settings-requires c κs = search needs
-
-put-thermal-requires : tie.Need-put-thermal-requires
-put-thermal-requires c κs = search needs
-
-put-fill-requires : tie.Need-put-fill-requires
-put-fill-requires c κs = search needs
-
-put-slots-requires : tie.Need-put-slots-requires
-put-slots-requires c κs = search needs
-
 put-table-requires : tie.Need-put-table-requires
 put-table-requires c κs =
     let at-put-slots = c .before .before .before in
@@ -44,9 +26,6 @@ put-table-requires c κs =
       at-put-fill .put-fill .kept .0,
       at-put-slots .put-slots .kept .0,
     )
-
-same-length : tie.Need-same-length
-same-length c = search needs
 
 returns : tie.Need-returns
 returns c =
@@ -80,12 +59,12 @@ pub write-spec : {M : Type 1} → statement M
 write-spec =
     tie.close
     (tie.spec
-    put-sizes-requires
-    put-command-requires
-    put-settings-requires
-    put-thermal-requires
-    put-fill-requires
-    put-slots-requires
+    (λ c κs. search needs)
+    (λ c κs. search needs)
+    (λ c κs. search needs)
+    (λ c κs. search needs)
+    (λ c κs. search needs)
+    (λ c κs. search needs)
     put-table-requires
-    same-length
+    (λ c. search needs)
     returns)

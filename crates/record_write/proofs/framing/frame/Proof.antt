@@ -4,24 +4,6 @@ use borrow.Author.Needs.{needs}
 use Rattle.record_write.proofs.framing.frame.Statement.{statement}
 use Rattle.record_write.proofs.framing.frame.Tie as tie
 
-zero-part-requires : tie.Need-zero-part-requires
-zero-part-requires c κs = search needs
-
-put-u32-requires : tie.Need-put-u32-requires
-put-u32-requires c κs = search needs
-
-put-u32-requires-2 : tie.Need-put-u32-requires-2
-put-u32-requires-2 c κs = search needs
-
-put-u16-requires : tie.Need-put-u16-requires
-put-u16-requires c κs = search needs
-
-empty-history-requires : tie.Need-empty-history-requires
-empty-history-requires c κs = search needs
-
-same-length : tie.Need-same-length
-same-length c = search needs
-
 returns : tie.Need-returns
 returns c =
     let at-empty-history = c .before .before in
@@ -43,10 +25,10 @@ pub frame-spec : {M : Type 1} → statement M
 frame-spec =
     tie.close
     (tie.spec
-    zero-part-requires
-    put-u32-requires
-    put-u32-requires-2
-    put-u16-requires
-    empty-history-requires
-    same-length
+    (λ c κs. search needs)
+    (λ c κs. search needs)
+    (λ c κs. search needs)
+    (λ c κs. search needs)
+    (λ c κs. search needs)
+    (λ c. search needs)
     returns)

@@ -8,9 +8,6 @@ use borrow.Author.Needs.{needs}
 use Rattle.refusals.proofs.refusal.mailbox_refusal.Statement.{statement}
 use Rattle.refusals.proofs.refusal.mailbox_refusal.Tie as tie
 
-sound-requires : tie.Need-sound-requires
-sound-requires c κs = search needs
-
 returns : tie.Need-returns
 returns c = λ m a em ea. rw (failed (c .before .sound .ensures) (c .if1 .taken))
 
@@ -43,4 +40,4 @@ returns-4 c =
 
 pub mailbox-refusal-spec : {M : Type 1} → statement M
 mailbox-refusal-spec =
-    tie.close (tie.spec sound-requires returns returns-2 returns-3 slot-refusal-requires returns-4)
+    tie.close (tie.spec (λ c κs. search needs) returns returns-2 returns-3 slot-refusal-requires returns-4)

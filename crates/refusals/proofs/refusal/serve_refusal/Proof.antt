@@ -8,9 +8,6 @@ use borrow.Author.Needs.{needs}
 use Rattle.refusals.proofs.refusal.serve_refusal.Statement.{statement}
 use Rattle.refusals.proofs.refusal.serve_refusal.Tie as tie
 
-work-refusal-requires : tie.Need-work-refusal-requires
-work-refusal-requires c κs = search needs
-
 returns : tie.Need-returns
 returns c =
     let work = c .before .work-refusal in
@@ -33,4 +30,4 @@ returns-2 c =
 
 pub serve-refusal-spec : {M : Type 1} → statement M
 serve-refusal-spec =
-    tie.close (tie.spec work-refusal-requires returns slot-refusal-requires returns-2)
+    tie.close (tie.spec (λ c κs. search needs) returns slot-refusal-requires returns-2)

@@ -12,15 +12,6 @@ use Rattle.refusals.proofs.refusal.slot_refusal.Tie as tie
 returns : tie.Need-returns
 returns c = rw (le-ltb (c .before .before .args .port) 4 (c .if1 .taken))
 
-stage-at-requires : tie.Need-stage-at-requires
-stage-at-requires c κs = search needs
-
-stage-number-requires : tie.Need-stage-number-requires
-stage-number-requires c κs = search needs
-
-stage-number-requires-2 : tie.Need-stage-number-requires-2
-stage-number-requires-2 c κs = search needs
-
 -- the number that is compared is that of the stage in the record
 number : (c : tie.After-stage-number2) → let a = c .before .before .before .before .before .args in c .before .stage-number .result ≡ stageNumber (stageFor (a .port) (decode (a .device .now)))
 number c =
@@ -48,4 +39,4 @@ returns-3 c =
 
 pub slot-refusal-spec : {M : Type 1} → statement M
 slot-refusal-spec =
-    tie.close (tie.spec returns stage-at-requires stage-number-requires stage-number-requires-2 returns-2 returns-3)
+    tie.close (tie.spec returns (λ c κs. search needs) (λ c κs. search needs) (λ c κs. search needs) returns-2 returns-3)

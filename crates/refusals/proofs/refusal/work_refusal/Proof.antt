@@ -6,9 +6,6 @@ use borrow.Author.Needs.{needs}
 use Rattle.refusals.proofs.refusal.work_refusal.Statement.{statement}
 use Rattle.refusals.proofs.refusal.work_refusal.Tie as tie
 
-sound-requires : tie.Need-sound-requires
-sound-requires c κs = search needs
-
 returns : tie.Need-returns
 returns c = λ a disk ea ed. rw (failed (c .before .sound .ensures) (c .if1 .taken))
 
@@ -42,4 +39,4 @@ returns-4 c =
 
 pub work-refusal-spec : {M : Type 1} → statement M
 work-refusal-spec =
-    tie.close (tie.spec sound-requires returns returns-2 is-disk-requires returns-3 returns-4)
+    tie.close (tie.spec (λ c κs. search needs) returns returns-2 is-disk-requires returns-3 returns-4)

@@ -5,18 +5,6 @@ use borrow.Author.Needs.{needs}
 use Rattle.reply.proofs.registers.put_reply.Statement.{statement}
 use Rattle.reply.proofs.registers.put_reply.Tie as tie
 
-put-registers-requires : tie.Need-put-registers-requires
-put-registers-requires c κs = search needs
-
-add-zero-part : tie.Need-add-zero-part
-add-zero-part c = search needs
-
-zero-part-requires : tie.Need-zero-part-requires
-zero-part-requires c κs = search needs
-
-same-length : tie.Need-same-length
-same-length c = search needs
-
 returns : tie.Need-returns
 returns c =
     let at-zero-part = c .before .before in
@@ -28,4 +16,4 @@ returns c =
 pub put-reply-spec : {M : Type 1} → statement M
 put-reply-spec =
     tie.close
-    (tie.spec put-registers-requires add-zero-part zero-part-requires same-length returns)
+    (tie.spec (λ c κs. search needs) (λ c. search needs) (λ c κs. search needs) (λ c. search needs) returns)

@@ -9,21 +9,6 @@ use borrow.Author.Needs.{needs}
 use Rattle.reply_data.proofs.sector.put_sector.Statement.{statement}
 use Rattle.reply_data.proofs.sector.put_sector.Tie as tie
 
-put-registers-requires : tie.Need-put-registers-requires
-put-registers-requires c κs = search needs
-
-add-copy-part : tie.Need-add-copy-part
-add-copy-part c = search needs
-
-mul-copy-part : tie.Need-mul-copy-part
-mul-copy-part c = search needs
-
-copy-part-requires : tie.Need-copy-part-requires
-copy-part-requires c κs = search needs
-
-same-length : tie.Need-same-length
-same-length c = search needs
-
 returns : tie.Need-returns
 returns c =
     let at-copy-part = c .before .before in
@@ -37,9 +22,9 @@ pub put-sector-spec : {M : Type 1} → statement M
 put-sector-spec =
     tie.close
     (tie.spec
-    put-registers-requires
-    add-copy-part
-    mul-copy-part
-    copy-part-requires
-    same-length
+    (λ c κs. search needs)
+    (λ c. search needs)
+    (λ c. search needs)
+    (λ c κs. search needs)
+    (λ c. search needs)
     returns)

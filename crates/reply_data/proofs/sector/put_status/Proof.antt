@@ -8,30 +8,6 @@ use borrow.Author.Needs.{needs}
 use Rattle.reply_data.proofs.sector.put_status.Statement.{statement}
 use Rattle.reply_data.proofs.sector.put_status.Tie as tie
 
-put-reply-requires : tie.Need-put-reply-requires
-put-reply-requires c κs = search needs
-
-add-put-head : tie.Need-add-put-head
-add-put-head c = search needs
-
-put-head-requires : tie.Need-put-head-requires
-put-head-requires c κs = search needs
-
-add-put-command : tie.Need-add-put-command
-add-put-command c = search needs
-
-put-command-requires : tie.Need-put-command-requires
-put-command-requires c κs = search needs
-
-add-put-temperatures : tie.Need-add-put-temperatures
-add-put-temperatures c = search needs
-
-put-temperatures-requires : tie.Need-put-temperatures-requires
-put-temperatures-requires c κs = search needs
-
-same-length : tie.Need-same-length
-same-length c = search needs
-
 returns : tie.Need-returns
 unfolding statusSector
 returns c =
@@ -49,12 +25,12 @@ pub put-status-spec : {M : Type 1} → statement M
 put-status-spec =
     tie.close
     (tie.spec
-    put-reply-requires
-    add-put-head
-    put-head-requires
-    add-put-command
-    put-command-requires
-    add-put-temperatures
-    put-temperatures-requires
-    same-length
+    (λ c κs. search needs)
+    (λ c. search needs)
+    (λ c κs. search needs)
+    (λ c. search needs)
+    (λ c κs. search needs)
+    (λ c. search needs)
+    (λ c κs. search needs)
+    (λ c. search needs)
     returns)

@@ -10,18 +10,6 @@ use borrow.Author.Needs.{needs}
 use Rattle.reply_data.proofs.sector.put_table.Statement.{statement}
 use Rattle.reply_data.proofs.sector.put_table.Tie as tie
 
-put-registers-requires : tie.Need-put-registers-requires
-put-registers-requires c κs = search needs
-
-add-copy-part : tie.Need-add-copy-part
-add-copy-part c = search needs
-
-copy-part-requires : tie.Need-copy-part-requires
-copy-part-requires c κs = search needs
-
-same-length : tie.Need-same-length
-same-length c = search needs
-
 returns : tie.Need-returns
 returns c =
     let at-copy-part = c .before .before in
@@ -35,8 +23,8 @@ pub put-table-spec : {M : Type 1} → statement M
 put-table-spec =
     tie.close
     (tie.spec
-    put-registers-requires
-    add-copy-part
-    copy-part-requires
-    same-length
+    (λ c κs. search needs)
+    (λ c. search needs)
+    (λ c κs. search needs)
+    (λ c. search needs)
     returns)

@@ -5,17 +5,8 @@ use borrow.Author.Needs.{needs}
 use Rattle.request.proofs.access.data_code.Statement.{statement}
 use Rattle.request.proofs.access.data_code.Tie as tie
 
-returns : tie.Need-returns
-returns c = search needs
-
-moves-requires : tie.Need-moves-requires
-moves-requires c κs = search needs
-
 returns-2 : tie.Need-returns-2
 returns-2 c = rw (c .before .before .if1 .left, failed (c .before .moves .ensures) (c .if2 .taken))
-
-sectors-of-requires : tie.Need-sectors-of-requires
-sectors-of-requires c κs = search needs
 
 returns-3 : tie.Need-returns-3
 returns-3 c = rw (c .before .before .before .before .if1 .left, passed (c .before .before .before .moves .ensures) (c .before .before .if2 .left), ← c .before .sectors-of .ensures, ne-eqb _ _ (c .if3 .taken))
@@ -25,4 +16,4 @@ returns-4 c = rw (c .before .before .before .before .if1 .left, passed (c .befor
 
 pub data-code-spec : {M : Type 1} → statement M
 data-code-spec =
-    tie.close (tie.spec returns moves-requires returns-2 sectors-of-requires returns-3 returns-4)
+    tie.close (tie.spec (λ c. search needs) (λ c κs. search needs) returns-2 (λ c κs. search needs) returns-3 returns-4)

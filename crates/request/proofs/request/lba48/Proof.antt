@@ -7,54 +7,6 @@ use borrow.Author.Needs.{needs}
 use Rattle.request.proofs.request.lba48.Statement.{statement}
 use Rattle.request.proofs.request.lba48.Tie as tie
 
-add-u8-at : tie.Need-add-u8-at
-add-u8-at c = search needs
-
-u8-at-requires : tie.Need-u8-at-requires
-u8-at-requires c κs = search needs
-
-add-u8-at-2 : tie.Need-add-u8-at-2
-add-u8-at-2 c = search needs
-
-u8-at-requires-2 : tie.Need-u8-at-requires-2
-u8-at-requires-2 c κs = search needs
-
-add-u8-at-3 : tie.Need-add-u8-at-3
-add-u8-at-3 c = search needs
-
-u8-at-requires-3 : tie.Need-u8-at-requires-3
-u8-at-requires-3 c κs = search needs
-
-join24-requires : tie.Need-join24-requires
-join24-requires c κs = search needs
-
-add-u8-at-4 : tie.Need-add-u8-at-4
-add-u8-at-4 c = search needs
-
-u8-at-requires-4 : tie.Need-u8-at-requires-4
-u8-at-requires-4 c κs = search needs
-
-add-u8-at-5 : tie.Need-add-u8-at-5
-add-u8-at-5 c = search needs
-
-u8-at-requires-5 : tie.Need-u8-at-requires-5
-u8-at-requires-5 c κs = search needs
-
-add-u8-at-6 : tie.Need-add-u8-at-6
-add-u8-at-6 c = search needs
-
-u8-at-requires-6 : tie.Need-u8-at-requires-6
-u8-at-requires-6 c κs = search needs
-
-join24-requires-2 : tie.Need-join24-requires-2
-join24-requires-2 c κs = search needs
-
-mul-result : tie.Need-mul-result
-mul-result c = search needs
-
-add-result : tie.Need-add-result
-add-result c = search needs
-
 returns : tie.Need-returns
 returns c =
     let at-u8-at6 = c .before in
@@ -85,20 +37,20 @@ pub lba48-spec : {M : Type 1} → statement M
 lba48-spec =
     tie.close
     (tie.spec
-    add-u8-at
-    u8-at-requires
-    add-u8-at-2
-    u8-at-requires-2
-    add-u8-at-3
-    u8-at-requires-3
-    join24-requires
-    add-u8-at-4
-    u8-at-requires-4
-    add-u8-at-5
-    u8-at-requires-5
-    add-u8-at-6
-    u8-at-requires-6
-    join24-requires-2
-    mul-result
-    add-result
+    (λ c. search needs)
+    (λ c κs. search needs)
+    (λ c. search needs)
+    (λ c κs. search needs)
+    (λ c. search needs)
+    (λ c κs. search needs)
+    (λ c κs. search needs)
+    (λ c. search needs)
+    (λ c κs. search needs)
+    (λ c. search needs)
+    (λ c κs. search needs)
+    (λ c. search needs)
+    (λ c κs. search needs)
+    (λ c κs. search needs)
+    (λ c. search needs)
+    (λ c. search needs)
     returns)

@@ -9,32 +9,11 @@ use borrow.Author.Needs.{needs}
 use Rattle.request.proofs.request.log_ext.Statement.{statement}
 use Rattle.request.proofs.request.log_ext.Tie as tie
 
-add-u16-at : tie.Need-add-u16-at
-add-u16-at c = search needs
-
-u16-at-requires : tie.Need-u16-at-requires
-u16-at-requires c κs = search needs
-
 returns : tie.Need-returns
 unfolding logExt
 returns c =
     let a = c .before .before .before .args in
     rw (number-of 2 (a .area .now) (a .at) mailboxSize 6 (omega arith) (c .before .u16-at .ensures), ne-eqb _ _ (c .if1 .taken))
-
-add-u8-at : tie.Need-add-u8-at
-add-u8-at c = search needs
-
-u8-at-requires : tie.Need-u8-at-requires
-u8-at-requires c κs = search needs
-
-add-u16-at-2 : tie.Need-add-u16-at-2
-add-u16-at-2 c = search needs
-
-u16-at-requires-2 : tie.Need-u16-at-requires-2
-u16-at-requires-2 c κs = search needs
-
-log-page-requires : tie.Need-log-page-requires
-log-page-requires c κs = search needs
 
 returns-2 : tie.Need-returns-2
 unfolding logExt
@@ -52,12 +31,12 @@ pub log-ext-spec : {M : Type 1} → statement M
 log-ext-spec =
     tie.close
     (tie.spec
-    add-u16-at
-    u16-at-requires
+    (λ c. search needs)
+    (λ c κs. search needs)
     returns
-    add-u8-at
-    u8-at-requires
-    add-u16-at-2
-    u16-at-requires-2
-    log-page-requires
+    (λ c. search needs)
+    (λ c κs. search needs)
+    (λ c. search needs)
+    (λ c κs. search needs)
+    (λ c κs. search needs)
     returns-2)

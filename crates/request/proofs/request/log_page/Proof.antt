@@ -5,9 +5,6 @@ use borrow.Author.Needs.{needs}
 use Rattle.request.proofs.request.log_page.Statement.{statement}
 use Rattle.request.proofs.request.log_page.Tie as tie
 
-control-requires : tie.Need-control-requires
-control-requires c κs = search needs
-
 returns : tie.Need-returns
 unfolding logPage
 returns c = rw (eq-eqb _ _ (c .before .before .if1 .taken), eq-eqb _ _ (c .before .if2 .taken)) (c .control .ensures)
@@ -25,4 +22,4 @@ unfolding logPage
 returns-4 c = rw (ne-eqb _ _ (c .before .if1 .left), ne-eqb _ _ (c .if3 .left))
 
 pub log-page-spec : {M : Type 1} → statement M
-log-page-spec = tie.close (tie.spec control-requires returns returns-2 returns-3 returns-4)
+log-page-spec = tie.close (tie.spec (λ c κs. search needs) returns returns-2 returns-3 returns-4)

@@ -7,32 +7,17 @@ use borrow.Author.Needs.{needs}
 use Rattle.request.proofs.request.request_of.Statement.{statement}
 use Rattle.request.proofs.request.request_of.Tie as tie
 
-add-u8-at : tie.Need-add-u8-at
-add-u8-at c = search needs
-
-u8-at-requires : tie.Need-u8-at-requires
-u8-at-requires c κs = search needs
-
-smart-log-requires : tie.Need-smart-log-requires
-smart-log-requires c κs = search needs
-
 returns : tie.Need-returns
 unfolding requestOf
 returns c =
     let a = c .before .before .before .before .args in
     rw (byte-of (a .area .now) (a .at) 11 (omega arith) (c .before .before .u8-at .ensures), eq-eqb _ _ (c .before .if1 .taken)) (c .smart-log .ensures)
 
-log-ext-requires : tie.Need-log-ext-requires
-log-ext-requires c κs = search needs
-
 returns-2 : tie.Need-returns-2
 unfolding requestOf
 returns-2 c =
     let a = c .before .before .before .before .before .args in
     rw (byte-of (a .area .now) (a .at) 11 (omega arith) (c .before .before .before .u8-at .ensures), ne-eqb _ _ (c .before .before .if1 .left), eq-eqb _ _ (c .before .if2 .taken)) (c .log-ext .ensures)
-
-log-ext-requires-2 : tie.Need-log-ext-requires-2
-log-ext-requires-2 c κs = search needs
 
 returns-3 : tie.Need-returns-3
 unfolding requestOf
@@ -46,9 +31,6 @@ returns-3 c =
     )
     (c .log-ext2 .ensures)
 
-sector-requires : tie.Need-sector-requires
-sector-requires c κs = search needs
-
 returns-4 : tie.Need-returns-4
 unfolding requestOf
 returns-4 c =
@@ -61,9 +43,6 @@ returns-4 c =
       eq-eqb _ _ (c .before .if4 .taken),
     )
     (c .sector .ensures)
-
-sector-requires-2 : tie.Need-sector-requires-2
-sector-requires-2 c κs = search needs
 
 returns-5 : tie.Need-returns-5
 unfolding requestOf
@@ -103,16 +82,16 @@ pub request-of-spec : {M : Type 1} → statement M
 request-of-spec =
     tie.close
     (tie.spec
-    add-u8-at
-    u8-at-requires
-    smart-log-requires
+    (λ c. search needs)
+    (λ c κs. search needs)
+    (λ c κs. search needs)
     returns
-    log-ext-requires
+    (λ c κs. search needs)
     returns-2
-    log-ext-requires-2
+    (λ c κs. search needs)
     returns-3
-    sector-requires
+    (λ c κs. search needs)
     returns-4
-    sector-requires-2
+    (λ c κs. search needs)
     returns-5
     returns-6)

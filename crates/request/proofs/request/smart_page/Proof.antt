@@ -13,16 +13,10 @@ returns-2 : tie.Need-returns-2
 unfolding smartLog
 returns-2 c = λ m f n p d h. rw (d, eq-eqb _ _ (c .before .if1 .left), h, ne-eqb _ _ (c .if2 .taken))
 
-log-page-requires : tie.Need-log-page-requires
-log-page-requires c κs = search needs
-
 returns-3 : tie.Need-returns-3
 unfolding smartLog
 returns-3 c = λ m f n p d h.
     rw (d, eq-eqb _ _ (c .before .before .before .if1 .left), h, eq-eqb _ _ (c .before .before .if2 .left), f, eq-eqb _ _ (c .before .if3 .taken), p, n) (c .log-page .ensures)
-
-log-page-requires-2 : tie.Need-log-page-requires-2
-log-page-requires-2 c κs = search needs
 
 returns-4 : tie.Need-returns-4
 unfolding smartLog
@@ -40,8 +34,8 @@ smart-page-spec =
     (tie.spec
     returns
     returns-2
-    log-page-requires
+    (λ c κs. search needs)
     returns-3
-    log-page-requires-2
+    (λ c κs. search needs)
     returns-4
     returns-5)

@@ -5,21 +5,6 @@ use borrow.Author.Needs.{needs}
 use Rattle.restore.proofs.newest.put_history.Statement.{statement}
 use Rattle.restore.proofs.newest.put_history.Tie as tie
 
-add-u16-at : tie.Need-add-u16-at
-add-u16-at c = search needs
-
-u16-at-requires : tie.Need-u16-at-requires
-u16-at-requires c κs = search needs
-
-add-copy-part : tie.Need-add-copy-part
-add-copy-part c = search needs
-
-copy-part-requires : tie.Need-copy-part-requires
-copy-part-requires c κs = search needs
-
-same-length : tie.Need-same-length
-same-length c = search needs
-
 returns : tie.Need-returns
 returns c =
     let at-copy-part = c .before .before in
@@ -36,10 +21,10 @@ pub put-history-spec : {M : Type 1} → statement M
 put-history-spec =
     tie.close
     (tie.spec
-    add-u16-at
-    u16-at-requires
-    add-copy-part
-    copy-part-requires
-    same-length
+    (λ c. search needs)
+    (λ c κs. search needs)
+    (λ c. search needs)
+    (λ c κs. search needs)
+    (λ c. search needs)
     returns
     returns-2)

@@ -10,9 +10,6 @@ use borrow.Author.Needs.{needs}
 use Rattle.restore.proofs.newest.put_restored.Statement.{statement}
 use Rattle.restore.proofs.newest.put_restored.Tie as tie
 
-restore-blank-requires : tie.Need-restore-blank-requires
-restore-blank-requires c κs = search needs
-
 sub-restore-entry : tie.Need-sub-restore-entry
 sub-restore-entry c =
     let a = c .before .before .before .before .args in
@@ -25,16 +22,10 @@ restore-entry-requires c κs =
     let within = read-entry (a .native) (a .image .now) (a .used) (c .before .before .before .before .pre .1) (c .before .if1 .left) in
     (c .before .before .before .before .pre .0, omega (arith, within .0, within .1))
 
-same-length : tie.Need-same-length
-same-length c = search needs
-
 returns : tie.Need-returns
 returns c =
     let a = c .before .before .before .before .before .before .before .args in
     c .before .before .restore-blank .ensures ∙ ap (λ (s : Saved). encode (restoredContents s)) (restored-blank (a .native) (a .image .now) (a .used) (c .before .before .before .before .if1 .taken))
-
-same-length-2 : tie.Need-same-length-2
-same-length-2 c = search needs
 
 returns-2 : tie.Need-returns-2
 returns-2 c =
@@ -46,10 +37,10 @@ pub put-restored-spec : {M : Type 1} → statement M
 put-restored-spec =
     tie.close
     (tie.spec
-    restore-blank-requires
+    (λ c κs. search needs)
     sub-restore-entry
     restore-entry-requires
-    same-length
+    (λ c. search needs)
     returns
-    same-length-2
+    (λ c. search needs)
     returns-2)

@@ -13,17 +13,8 @@ use borrow.Author.Needs.{needs}
 use Rattle.restore.proofs.newest.restore_blank.Statement.{statement}
 use Rattle.restore.proofs.newest.restore_blank.Tie as tie
 
-blank-device-requires : tie.Need-blank-device-requires
-blank-device-requires c κs = search needs
-
-frame-requires : tie.Need-frame-requires
-frame-requires c κs = search needs
-
 write-requires : tie.Need-write-requires
 write-requires c κs = subst Framed (sym (c .before .before .before .frame .ensures)) blank-framed
-
-same-length : tie.Need-same-length
-same-length c = search needs
 
 returns : tie.Need-returns
 returns c =
@@ -38,4 +29,4 @@ returns c =
 
 pub restore-blank-spec : {M : Type 1} → statement M
 restore-blank-spec =
-    tie.close (tie.spec blank-device-requires frame-requires write-requires same-length returns)
+    tie.close (tie.spec (λ c κs. search needs) (λ c κs. search needs) write-requires (λ c. search needs) returns)

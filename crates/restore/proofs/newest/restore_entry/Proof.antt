@@ -10,24 +10,12 @@ use borrow.Author.Needs.{needs}
 use Rattle.restore.proofs.newest.restore_entry.Statement.{statement}
 use Rattle.restore.proofs.newest.restore_entry.Tie as tie
 
-saved-device-requires : tie.Need-saved-device-requires
-saved-device-requires c κs = search needs
-
-frame-requires : tie.Need-frame-requires
-frame-requires c κs = search needs
-
-put-history-requires : tie.Need-put-history-requires
-put-history-requires c κs = search needs
-
 write-requires : tie.Need-write-requires
 write-requires c κs =
     let at-put-history = c .before .before .before in
     let at-frame = at-put-history .before .before .before .before in
     let entry = at-frame .before .before .before .before .before in
     history-after _ _ (entry .args .image .now) (entry .args .at) _ (entry .pre .1) (at-frame .frame .ensures) (at-put-history .put-history .ensures) .0
-
-same-length : tie.Need-same-length
-same-length c = search needs
 
 returns : tie.Need-returns
 returns c =
@@ -49,9 +37,9 @@ pub restore-entry-spec : {M : Type 1} → statement M
 restore-entry-spec =
     tie.close
     (tie.spec
-    saved-device-requires
-    frame-requires
-    put-history-requires
+    (λ c κs. search needs)
+    (λ c κs. search needs)
+    (λ c κs. search needs)
     write-requires
-    same-length
+    (λ c. search needs)
     returns)

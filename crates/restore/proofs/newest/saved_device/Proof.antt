@@ -8,39 +8,6 @@ use borrow.Author.Needs.{needs}
 use Rattle.restore.proofs.newest.saved_device.Statement.{statement}
 use Rattle.restore.proofs.newest.saved_device.Tie as tie
 
-add-u64-at : tie.Need-add-u64-at
-add-u64-at c = search needs
-
-u64-at-requires : tie.Need-u64-at-requires
-u64-at-requires c κs = search needs
-
-add-u64-at-2 : tie.Need-add-u64-at-2
-add-u64-at-2 c = search needs
-
-u64-at-requires-2 : tie.Need-u64-at-requires-2
-u64-at-requires-2 c κs = search needs
-
-add-u8-at : tie.Need-add-u8-at
-add-u8-at c = search needs
-
-u8-at-requires : tie.Need-u8-at-requires
-u8-at-requires c κs = search needs
-
-add-u8-at-2 : tie.Need-add-u8-at-2
-add-u8-at-2 c = search needs
-
-u8-at-requires-2 : tie.Need-u8-at-requires-2
-u8-at-requires-2 c κs = search needs
-
-saved-settings-requires : tie.Need-saved-settings-requires
-saved-settings-requires c κs = search needs
-
-kept-index-requires : tie.Need-kept-index-requires
-kept-index-requires c κs = search needs
-
-powered-requires : tie.Need-powered-requires
-powered-requires c κs = search needs
-
 returns : tie.Need-returns
 unfolding savedAt
 returns c =
@@ -63,15 +30,15 @@ pub saved-device-spec : {M : Type 1} → statement M
 saved-device-spec =
     tie.close
     (tie.spec
-    add-u64-at
-    u64-at-requires
-    add-u64-at-2
-    u64-at-requires-2
-    add-u8-at
-    u8-at-requires
-    add-u8-at-2
-    u8-at-requires-2
-    saved-settings-requires
-    kept-index-requires
-    powered-requires
+    (λ c. search needs)
+    (λ c κs. search needs)
+    (λ c. search needs)
+    (λ c κs. search needs)
+    (λ c. search needs)
+    (λ c κs. search needs)
+    (λ c. search needs)
+    (λ c κs. search needs)
+    (λ c κs. search needs)
+    (λ c κs. search needs)
+    (λ c κs. search needs)
     returns)

@@ -19,27 +19,9 @@ Inv-loop s₀ to from times word k₀ s k = (k ≤ times) × (length s ≡ lengt
 abbrev μ-loop : tie.MeasureT-loop
 μ-loop s₀ to from times word k₀ s k = times - k
 
-u32-at-requires : tie.Need-u32-at-requires Inv-loop μ-loop
-u32-at-requires c κs = omega arith
-
 loop-holds : tie.Need-loop-holds Inv-loop μ-loop
 unfolding repeated
 loop-holds c = (zero-le, refl, refl)
-
-mul-put-u32 : tie.Need-mul-put-u32 Inv-loop μ-loop
-mul-put-u32 c = omega arith
-
-add-put-u32 : tie.Need-add-put-u32 Inv-loop μ-loop
-add-put-u32 c = omega arith
-
-put-u32-requires : tie.Need-put-u32-requires Inv-loop μ-loop
-put-u32-requires c κs = omega arith
-
-add-k : tie.Need-add-k Inv-loop μ-loop
-add-k c = omega arith
-
-loop-less : tie.Need-loop-less Inv-loop μ-loop
-loop-less c = omega arith
 
 loop-again : tie.Need-loop-again Inv-loop μ-loop
 loop-again c =
@@ -76,13 +58,13 @@ repeat-within-spec =
     (tie.spec
     Inv-loop
     μ-loop
-    u32-at-requires
+    (λ c κs. omega arith)
     loop-holds
-    mul-put-u32
-    add-put-u32
-    put-u32-requires
-    add-k
-    loop-less
+    (λ c. omega arith)
+    (λ c. omega arith)
+    (λ c κs. omega arith)
+    (λ c. omega arith)
+    (λ c. omega arith)
     loop-again
     same-length
     returns)

@@ -3,14 +3,8 @@ use borrow.Author.Needs.{needs}
 use Rattle.runs.proofs.run.zero_part.Statement.{statement}
 use Rattle.runs.proofs.run.zero_part.Tie as tie
 
-set-part-requires : tie.Need-set-part-requires
-set-part-requires c κs = search needs
-
-same-length : tie.Need-same-length
-same-length c = search needs
-
 returns : tie.Need-returns
 returns c = c .before .before .set-part .ensures
 
 pub zero-part-spec : {M : Type 1} → statement M
-zero-part-spec = tie.close (tie.spec set-part-requires same-length returns)
+zero-part-spec = tie.close (tie.spec (λ c κs. search needs) (λ c. search needs) returns)

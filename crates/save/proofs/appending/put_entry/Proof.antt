@@ -12,26 +12,8 @@ put-sizes-requires c κs = (omega arith, sound-parts _ (c .before .before .befor
 put-features-requires : tie.Need-put-features-requires
 put-features-requires c κs = (omega arith, sound-parts _ (c .before .before .before .before .before .before .before .pre .0) .size)
 
-add-copy-part : tie.Need-add-copy-part
-add-copy-part c = search needs
-
 copy-part-requires : tie.Need-copy-part-requires
 copy-part-requires c κs = (omega arith, omega (arith, sound-parts _ (c .before .before .before .before .before .before .before .before .before .before .before .pre .0) .size))
-
-add-put-trailer : tie.Need-add-put-trailer
-add-put-trailer c = search needs
-
-cast-put-trailer : tie.Need-cast-put-trailer
-cast-put-trailer c = search needs
-
-add-put-trailer-2 : tie.Need-add-put-trailer-2
-add-put-trailer-2 c = search needs
-
-put-trailer-requires : tie.Need-put-trailer-requires
-put-trailer-requires c κs = search needs
-
-same-length : tie.Need-same-length
-same-length c = search needs
 
 returns : tie.Need-returns
 returns c =
@@ -51,11 +33,11 @@ put-entry-spec =
     (tie.spec
     put-sizes-requires
     put-features-requires
-    add-copy-part
+    (λ c. search needs)
     copy-part-requires
-    add-put-trailer
-    cast-put-trailer
-    add-put-trailer-2
-    put-trailer-requires
-    same-length
+    (λ c. search needs)
+    (λ c. search needs)
+    (λ c. search needs)
+    (λ c κs. search needs)
+    (λ c. search needs)
     returns)

@@ -17,12 +17,6 @@ passed c =
     let a = c .before .before .before .before .before .before .args in
     mailbox-passed answered (a .device .now) (a .port) (a .mailbox .now) (a .area .now) (c .before .mailbox-refusal .ensures (a .mailbox .now) (a .area .now) refl refl) (c .if1 .left)
 
-mailbox-refusal-requires : tie.Need-mailbox-refusal-requires
-mailbox-refusal-requires c κs = search needs
-
-same-length : tie.Need-same-length
-same-length c = search needs
-
 returns : tie.Need-returns
 returns c =
     let at-mailbox-refusal = c .before in
@@ -30,21 +24,12 @@ returns c =
     let a = entry .args in
     rw (give-refused (a .device .now) (a .port) (a .mailbox .now) (a .area .now) (at-mailbox-refusal .mailbox-refusal .result) (at-mailbox-refusal .mailbox-refusal .ensures (a .mailbox .now) (a .area .now) refl refl) (c .if1 .taken)) (refl, (refl, refl))
 
-mul-copy-part : tie.Need-mul-copy-part
-mul-copy-part c = search needs
-
 copy-part-requires : tie.Need-copy-part-requires
 copy-part-requires c κs = omega (arith, passed (c .before))
 
 put-stage-requires : tie.Need-put-stage-requires
 put-stage-requires c κs =
     let ok = passed (c .before .before .before .before .before) in (ok .recordSized, ok .port)
-
-same-length-2 : tie.Need-same-length-2
-same-length-2 c = search needs
-
-same-length-3 : tie.Need-same-length-3
-same-length-3 c = search needs
 
 returns-2 : tie.Need-returns-2
 returns-2 c =
@@ -62,12 +47,12 @@ pub sct-give-spec : {M : Type 1} → statement M
 sct-give-spec =
     tie.close
     (tie.spec
-    mailbox-refusal-requires
-    same-length
+    (λ c κs. search needs)
+    (λ c. search needs)
     returns
-    mul-copy-part
+    (λ c. search needs)
     copy-part-requires
     put-stage-requires
-    same-length-2
-    same-length-3
+    (λ c. search needs)
+    (λ c. search needs)
     returns-2)

@@ -26,12 +26,6 @@ visible-of c =
     let a = known .before .args in
     visible-part (a .device .now) (a .area .now) (a .disk .now) (c .visible-len .result) (λ i. omega (arith, known .slice-known .given i)) (passed at-if1 .0) (c .visible-len .ensures)
 
-serve-refusal-requires : tie.Need-serve-refusal-requires
-serve-refusal-requires c κs = search needs
-
-same-length : tie.Need-same-length
-same-length c = search needs
-
 returns : tie.Need-returns
 returns c =
     let at-serve-refusal = c .before in
@@ -53,15 +47,6 @@ serve-requires c κs =
     let at-visible-len = c .before .before .before in
     let s = visible-of at-visible-len in
     (record { soundRecord = s .passed .isSound; size = s .passed .areaSized; port = passed (at-visible-len .before .before) .1 }, s .size)
-
-same-length-2 : tie.Need-same-length-2
-same-length-2 c = search needs
-
-same-length-3 : tie.Need-same-length-3
-same-length-3 c = search needs
-
-same-length-4 : tie.Need-same-length-4
-same-length-4 c = search needs
 
 returns-2 : tie.Need-returns-2
 returns-2 c =
@@ -92,14 +77,14 @@ pub sct-serve-spec : {M : Type 1} → statement M
 sct-serve-spec =
     tie.close
     (tie.spec
-    serve-refusal-requires
-    same-length
+    (λ c κs. search needs)
+    (λ c. search needs)
     returns
     visible-len-requires
     slice-relend-prefix-serve
     slice-aggregate-serve
     serve-requires
-    same-length-2
-    same-length-3
-    same-length-4
+    (λ c. search needs)
+    (λ c. search needs)
+    (λ c. search needs)
     returns-2)

@@ -24,15 +24,6 @@ visible-of c =
     let a = known .before .args in
     visible-part (a .device .now) (a .area .now) (a .disk .now) (c .visible-len .result) (λ i. omega (arith, known .slice-known .given i)) (passed at-if1) (c .visible-len .ensures)
 
-work-refusal-requires : tie.Need-work-refusal-requires
-work-refusal-requires c κs = search needs
-
-result-of-requires : tie.Need-result-of-requires
-result-of-requires c κs = search needs
-
-same-length : tie.Need-same-length
-same-length c = search needs
-
 returns : tie.Need-returns
 returns c =
     let at-if1 = c .before in
@@ -52,15 +43,6 @@ slice-aggregate-work c = let h = visible-of (c .before .before) .within in rw le
 
 work-requires : tie.Need-work-requires
 work-requires c κs = let s = visible-of (c .before .before) in (s .passed .isSound, s .passed .areaSized, s .size)
-
-result-of-requires-2 : tie.Need-result-of-requires-2
-result-of-requires-2 c κs = search needs
-
-same-length-2 : tie.Need-same-length-2
-same-length-2 c = search needs
-
-same-length-3 : tie.Need-same-length-3
-same-length-3 c = search needs
 
 returns-2 : tie.Need-returns-2
 returns-2 c =
@@ -84,15 +66,15 @@ pub sct-work-spec : {M : Type 1} → statement M
 sct-work-spec =
     tie.close
     (tie.spec
-    work-refusal-requires
-    result-of-requires
-    same-length
+    (λ c κs. search needs)
+    (λ c κs. search needs)
+    (λ c. search needs)
     returns
     visible-len-requires
     slice-relend-prefix-work
     slice-aggregate-work
     work-requires
-    result-of-requires-2
-    same-length-2
-    same-length-3
+    (λ c κs. search needs)
+    (λ c. search needs)
+    (λ c. search needs)
     returns-2)

@@ -13,12 +13,6 @@ use borrow.Author.Needs.{needs}
 use Rattle.serve_request.proofs.performing.perform.Statement.{statement}
 use Rattle.serve_request.proofs.performing.perform.Tie as tie
 
-write-requires : tie.Need-write-requires
-write-requires c κs = search needs
-
-device-after-requires : tie.Need-device-after-requires
-device-after-requires c κs = search needs
-
 finish-requires : tie.Need-finish-requires
 finish-requires c κs =
     let at-device-after = c .before in
@@ -38,15 +32,6 @@ send-requires c κs =
     let same = ap length (at-write .write .ensures .1) ∙ disk-size w (a .disk .now) in
     ((ap length (at-write .write .ensures .0) ∙ area-size w (a .area .now) ∙ entry .pre .size, ready .0, entry .pre .port, subst (λ n. SendsWithin n (k .sends)) (sym same) (entry .pre .sendsWithin)), ready .1)
 
-same-length : tie.Need-same-length
-same-length c = search needs
-
-same-length-2 : tie.Need-same-length-2
-same-length-2 c = search needs
-
-same-length-3 : tie.Need-same-length-3
-same-length-3 c = search needs
-
 returns : tie.Need-returns
 returns c =
     let at-send = c .before .before in
@@ -62,11 +47,11 @@ pub perform-spec : {M : Type 1} → statement M
 perform-spec =
     tie.close
     (tie.spec
-    write-requires
-    device-after-requires
+    (λ c κs. search needs)
+    (λ c κs. search needs)
     finish-requires
     send-requires
-    same-length
-    same-length-2
-    same-length-3
+    (λ c. search needs)
+    (λ c. search needs)
+    (λ c. search needs)
     returns)

@@ -13,12 +13,6 @@ decode-requires c κs =
     let entry = c .before .before .before .before in
     sound-parts (entry .args .device .now) (entry .pre .0 .soundRecord) .size
 
-mul-request-of : tie.Need-mul-request-of
-mul-request-of c = search needs
-
-request-of-requires : tie.Need-request-of-requires
-request-of-requires c κs = search needs
-
 decide-requires : tie.Need-decide-requires
 decide-requires c κs =
     let at-decode = c .before .before .before in
@@ -39,15 +33,6 @@ perform-requires c κs =
     let a = entry .args in
     performable (a .device .now) (a .area .now) (a .disk .now) (a .p) (at-decode .decode .result) (asRequest (at-request-of .request-of .result)) (at-decide .decide .result) (entry .pre .0) (at-decode .decode .ensures) (at-decide .decide .ensures) (λ i. omega (arith, known-11 .slice-known .given i)) (λ i. omega (arith, known .slice-known2 .given i)) (entry .pre .1)
 
-same-length : tie.Need-same-length
-same-length c = search needs
-
-same-length-2 : tie.Need-same-length-2
-same-length-2 c = search needs
-
-same-length-3 : tie.Need-same-length-3
-same-length-3 c = search needs
-
 returns : tie.Need-returns
 returns c =
     let at-perform = c .before .before .before .before .before .before in
@@ -63,11 +48,11 @@ serve-spec =
     tie.close
     (tie.spec
     decode-requires
-    mul-request-of
-    request-of-requires
+    (λ c. search needs)
+    (λ c κs. search needs)
     decide-requires
     perform-requires
-    same-length
-    same-length-2
-    same-length-3
+    (λ c. search needs)
+    (λ c. search needs)
+    (λ c. search needs)
     returns)

@@ -10,12 +10,6 @@ use borrow.Author.Needs.{needs}
 use Rattle.settings.proofs.settings.set_feature.Statement.{statement}
 use Rattle.settings.proofs.settings.set_feature.Tie as tie
 
-with-feature-requires : tie.Need-with-feature-requires
-with-feature-requires c κs = search needs
-
-is-interval-requires : tie.Need-is-interval-requires
-is-interval-requires c κs = search needs
-
 returns : tie.Need-returns
 unfolding historyEmptied
 returns c =
@@ -52,4 +46,4 @@ returns-2 c =
 
 pub set-feature-spec : {M : Type 1} → statement M
 set-feature-spec =
-    tie.close (tie.spec with-feature-requires is-interval-requires returns returns-2)
+    tie.close (tie.spec (λ c κs. search needs) (λ c κs. search needs) returns returns-2)

@@ -7,13 +7,10 @@ use borrow.Author.Needs.{needs}
 use Rattle.settings.proofs.settings.set_timer.Statement.{statement}
 use Rattle.settings.proofs.settings.set_timer.Tie as tie
 
-with-timer-requires : tie.Need-with-timer-requires
-with-timer-requires c κs = search needs
-
 returns : tie.Need-returns
 returns c =
     let d = c .before .before .args .d in
     record { device = λ h. ap (λ (t : Settings). withSettings t (asDevice d h)) (c .with-timer .ensures); stages = refl; four = refl }
 
 pub set-timer-spec : {M : Type 1} → statement M
-set-timer-spec = tie.close (tie.spec with-timer-requires returns)
+set-timer-spec = tie.close (tie.spec (λ c κs. search needs) returns)

@@ -6,16 +6,10 @@ use borrow.Author.Needs.{needs}
 use Rattle.settings.proofs.settings.with_feature.Statement.{statement}
 use Rattle.settings.proofs.settings.with_feature.Tie as tie
 
-is-cache-requires : tie.Need-is-cache-requires
-is-cache-requires c κs = search needs
-
 returns : tie.Need-returns
 returns c =
     let a = c .before .before .args in
     cache-set (asFeatureName (a .name)) (asFeature (a .f)) (asSettings (a .s)) (sym (c .before .is-cache .ensures) ∙ c .if1 .taken)
-
-is-interval-requires : tie.Need-is-interval-requires
-is-interval-requires c κs = search needs
 
 returns-2 : tie.Need-returns-2
 returns-2 c =
@@ -33,4 +27,4 @@ returns-3 c =
 
 pub with-feature-spec : {M : Type 1} → statement M
 with-feature-spec =
-    tie.close (tie.spec is-cache-requires returns is-interval-requires returns-2 returns-3)
+    tie.close (tie.spec (λ c κs. search needs) returns (λ c κs. search needs) returns-2 returns-3)

@@ -6,9 +6,6 @@ use borrow.Author.Needs.{needs}
 use Rattle.settings.proofs.settings.with_timer.Statement.{statement}
 use Rattle.settings.proofs.settings.with_timer.Tie as tie
 
-is-read-requires : tie.Need-is-read-requires
-is-read-requires c κs = search needs
-
 returns : tie.Need-returns
 returns c =
     let a = c .before .before .args in
@@ -20,4 +17,4 @@ returns-2 c =
     write-timer (asDirection (a .dir)) (a .n) (asSettings (a .s)) (sym (c .before .is-read .ensures) ∙ c .if1 .left)
 
 pub with-timer-spec : {M : Type 1} → statement M
-with-timer-spec = tie.close (tie.spec is-read-requires returns returns-2)
+with-timer-spec = tie.close (tie.spec (λ c κs. search needs) returns returns-2)

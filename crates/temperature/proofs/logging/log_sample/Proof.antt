@@ -4,26 +4,14 @@ use borrow.Author.Needs.{needs}
 use Rattle.temperature.proofs.logging.log_sample.Statement.{statement}
 use Rattle.temperature.proofs.logging.log_sample.Tie as tie
 
-is-logged-requires : tie.Need-is-logged-requires
-is-logged-requires c κs = search needs
-
 returns : tie.Need-returns
 returns c =
     let at-is-logged = c .before in
     let entry = at-is-logged .before .before in
     log-later (entry .args .t) (entry .args .interval) (entry .args .reading) (entry .args .device .now) _ (at-is-logged .is-logged .ensures) (c .if1 .taken)
 
-next-index-requires : tie.Need-next-index-requires
-next-index-requires c κs = search needs
-
-cast-log-reading : tie.Need-cast-log-reading
-cast-log-reading c = search needs
-
 log-reading-requires : tie.Need-log-reading-requires
 log-reading-requires c κs = (c .before .before .before .before .before .pre .0, rw (c .next-index .ensures) (next-within _ (c .before .before .before .before .before .pre .2)))
-
-same-length : tie.Need-same-length
-same-length c = search needs
 
 returns-2 : tie.Need-returns-2
 returns-2 c =
@@ -38,10 +26,10 @@ pub log-sample-spec : {M : Type 1} → statement M
 log-sample-spec =
     tie.close
     (tie.spec
-    is-logged-requires
+    (λ c κs. search needs)
     returns
-    next-index-requires
-    cast-log-reading
+    (λ c κs. search needs)
+    (λ c. search needs)
     log-reading-requires
-    same-length
+    (λ c. search needs)
     returns-2)

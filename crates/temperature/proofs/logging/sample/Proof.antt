@@ -35,9 +35,6 @@ write-requires c κs =
     rw (at-log-sample .log-sample .ensures)
     (log-framed (d .thermal) (d .settings .«log_interval» .state) (entry .args .reading) (entry .args .device .now) (sound-framed (entry .args .device .now) (λ i. omega (arith, known .slice-known .given i)) (entry .pre)))
 
-same-length : tie.Need-same-length
-same-length c = search needs
-
 returns : tie.Need-returns
 returns c =
     let at-write = c .before .before in
@@ -58,5 +55,5 @@ sample-spec =
     log-sample-requires
     sampled-device-requires
     write-requires
-    same-length
+    (λ c. search needs)
     returns)

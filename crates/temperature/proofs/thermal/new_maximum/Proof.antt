@@ -14,12 +14,6 @@ returns-2 : tie.Need-returns-2
 unfolding newMaximum
 returns-2 c = rw (ne-eqb (c .before .before .args .sample) 128 (c .before .if1 .left), eq-eqb (c .before .before .args .old) 128 (c .if2 .taken))
 
-shifted-requires : tie.Need-shifted-requires
-shifted-requires c κs = search needs
-
-shifted-requires-2 : tie.Need-shifted-requires-2
-shifted-requires-2 c κs = search needs
-
 returns-3 : tie.Need-returns-3
 returns-3 c =
     let at-shifted2 = c .before in
@@ -42,4 +36,4 @@ returns-4 c =
 
 pub new-maximum-spec : {M : Type 1} → statement M
 new-maximum-spec =
-    tie.close (tie.spec returns returns-2 shifted-requires shifted-requires-2 returns-3 returns-4)
+    tie.close (tie.spec returns returns-2 (λ c κs. search needs) (λ c κs. search needs) returns-3 returns-4)

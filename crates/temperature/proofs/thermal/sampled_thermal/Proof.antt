@@ -7,18 +7,6 @@ use borrow.Author.Needs.{needs}
 use Rattle.temperature.proofs.thermal.sampled_thermal.Statement.{statement}
 use Rattle.temperature.proofs.thermal.sampled_thermal.Tie as tie
 
-new-maximum-requires : tie.Need-new-maximum-requires
-new-maximum-requires c κs = search needs
-
-new-maximum-requires-2 : tie.Need-new-maximum-requires-2
-new-maximum-requires-2 c κs = search needs
-
-is-logged-requires : tie.Need-is-logged-requires
-is-logged-requires c κs = search needs
-
-next-index-requires : tie.Need-next-index-requires
-next-index-requires c κs = search needs
-
 returns : tie.Need-returns
 returns c =
     let at-if1 = c .before in
@@ -29,9 +17,6 @@ returns c =
     let a = entry .args in
     sampled-logged (a .t) (a .interval) (a .sample) _ _ (at-new-maximum .new-maximum .ensures) (at-new-maximum2 .new-maximum2 .ensures) (c .next-index .result) (c .next-index .ensures)
     (not-true _ (sym (at-is-logged .is-logged .ensures) ∙ at-if1 .if1 .taken))
-
-add-t8 : tie.Need-add-t8
-add-t8 c = search needs
 
 returns-2 : tie.Need-returns-2
 returns-2 c =
@@ -48,10 +33,10 @@ pub sampled-thermal-spec : {M : Type 1} → statement M
 sampled-thermal-spec =
     tie.close
     (tie.spec
-    new-maximum-requires
-    new-maximum-requires-2
-    is-logged-requires
-    next-index-requires
+    (λ c κs. search needs)
+    (λ c κs. search needs)
+    (λ c κs. search needs)
+    (λ c κs. search needs)
     returns
-    add-t8
+    (λ c. search needs)
     returns-2)

@@ -5,12 +5,9 @@ use borrow.Author.Needs.{needs}
 use Rattle.wire.proofs.number.u8_at.Statement.{statement}
 use Rattle.wire.proofs.number.u8_at.Tie as tie
 
-shared-slice-read-result : tie.Need-shared-slice-read-result
-shared-slice-read-result c = search needs
-
 returns : tie.Need-returns
 unfolding get
 returns c = omega arith
 
 pub u8-at-spec : {M : Type 1} → statement M
-u8-at-spec = tie.close (tie.spec shared-slice-read-result returns)
+u8-at-spec = tie.close (tie.spec (λ c. search needs) returns)

@@ -3,11 +3,8 @@ use borrow.Author.Needs.{needs}
 use Rattle.record.proofs.device.Settings.defaults.Statement.{statement}
 use Rattle.record.proofs.device.Settings.defaults.Tie as tie
 
-power-on-requires : tie.Need-power-on-requires
-power-on-requires c κs = search needs
-
 returns : tie.Need-returns
 returns c = λ native. c .power-on .ensures
 
 pub defaults-spec : {M : Type 1} → statement M
-defaults-spec = tie.close (tie.spec power-on-requires returns)
+defaults-spec = tie.close (tie.spec (λ c κs. search needs) returns)

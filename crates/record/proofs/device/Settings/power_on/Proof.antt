@@ -3,15 +3,6 @@ use borrow.Author.Needs.{needs}
 use Rattle.record.proofs.device.Settings.power_on.Statement.{statement}
 use Rattle.record.proofs.device.Settings.power_on.Tie as tie
 
-kept-requires : tie.Need-kept-requires
-kept-requires c κs = search needs
-
-kept-requires-2 : tie.Need-kept-requires-2
-kept-requires-2 c κs = search needs
-
-kept-requires-3 : tie.Need-kept-requires-3
-kept-requires-3 c κs = search needs
-
 returns : tie.Need-returns
 returns c =
     let at-kept2 = c .before in
@@ -20,4 +11,4 @@ returns c =
     λ i. record { readTimer = a .read-timer; writeTimer = a .write-timer; writeCache = (at-kept .kept .ensures) i; reordering = (at-kept2 .kept2 .ensures) i; logInterval = (c .kept3 .ensures) i }
 
 pub power-on-spec : {M : Type 1} → statement M
-power-on-spec = tie.close (tie.spec kept-requires kept-requires-2 kept-requires-3 returns)
+power-on-spec = tie.close (tie.spec (λ c κs. search needs) (λ c κs. search needs) (λ c κs. search needs) returns)
