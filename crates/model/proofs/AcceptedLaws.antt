@@ -1,4 +1,4 @@
--- What an accepted key asks, for each action and function, and which bytes its numbers are.
+-- What an accepted key asks for, for each action and function, and which bytes hold its numbers.
 use mathlib.Core.Path.{_≡_, refl, _∙_}
 use mathlib.Core.Bool.{Bool, true, false}
 use Prim.Native.Nat.{ℕ, suc, _+_, _*_, _^_}
@@ -53,7 +53,7 @@ option-named : (keep : Bool) → eqb (optionNumber keep) 1 ≡ keep
 option-named true = refl
 option-named false = refl
 
--- ---- what is asked
+-- ---- what is asked for
 
 module _ (d : Device) (k : List ℕ) (a : Action) (accepts : judgeKey d k ≡ accepted a) where
   asked : a ≡ actionOf (d .visible) k

@@ -1,4 +1,4 @@
--- No request both writes and sends, so its reply is the same whether it is made before or after what is written.
+-- No request both writes and sends, so its reply is the same whether it is built before or after the write.
 use mathlib.Core.Path.{_≡_, refl, sym, ap, _∙_}
 use mathlib.Core.Bool.{Bool, true, false}
 use mathlib.Core.Logic.{_⊎_, inl, inr}
@@ -80,7 +80,7 @@ order-free c disk (inr e) =
     ap (λ (x : Sending). replyWith (c .registers) x (v .device) (contentRead x (v .disk))) e
     ∙ sym (ap (λ (x : Sending). replyWith (c .registers) x (c .device) (contentRead x disk)) e)
 
--- .. so its reply is that of the device and the disk before what it writes
+-- .. so its reply is the one for the device and the disk before the write
 pub reply-before : (s : Serving) (m : List ℕ) (d : Device) (disk : Disk)
     → let c = decide s m d in replyOf c (volumeAfter c disk) ≡ replyOf c (record { device = c .device; disk = disk })
 reply-before s m d disk = order-free (decide s m d) disk (one-part s m d)

@@ -1,4 +1,4 @@
--- The bytes of an entry of the saved image: what stands at each place that document 01 names; and what a device saves.
+-- The bytes of an entry of the saved image: what is at each place that document 01 names, and what a device saves.
 use mathlib.Core.Path.{_≡_, refl, _∙_}
 use mathlib.Core.Bool.{Bool, true, false, _||_}
 use Prim.Native.Nat.{ℕ, _+_, _-_, _*_, _^_, _≤_, _<_}
@@ -64,7 +64,7 @@ pub record BodyAt (s : Saved) (b : List ℕ) : Type 0 where
   pub table : part b 32 512 ≡ tableBytes (s .logInterval .state) (s .index) (s .history)
   pub size : length b ≡ 544
 
--- the bytes 25 to 31 are in no field
+-- bytes 25 to 31 belong to no field
 head-gap : (s : Saved) → below headSize (λ i. ltb i zerosPlace || outside (headFields s) i) ≡ true
 head-gap s = refl
 
@@ -104,7 +104,7 @@ pub record TrailerAt (k : ℕ) (t : List ℕ) : Type 0 where
   pub letters : part t 12 4 ≡ 0x53 ∷ 0x43 ∷ 0x54 ∷ 0x45 ∷ []
   pub size : length t ≡ 16
 
--- a number of the trailer, and the three of them
+-- one number of the trailer, and all three of them
 pub get-trailer : (k at : ℕ) → at + 4 ≤ tagPlace → get 4 (trailerBytes k) at ≡ get 4 (form tagPlace (trailerFields k)) at
 unfolding trailerBytes
 get-trailer k at h = get-append-left 4 (form tagPlace (trailerFields k)) tag at (rw (length-form tagPlace (trailerFields k)) h)

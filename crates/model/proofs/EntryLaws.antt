@@ -55,7 +55,7 @@ pub record SavedFits (s : Saved) : Type 0 where
   pub whole : length (s .history) ≡ historySize
   pub readings : Bytes (s .history)
 
--- every field of the head is read from the body
+-- every field of the head is read back from the body
 pub head-reads : (s : Saved) → SavedFits s → Reads (headFields s) (bodyBytes s)
 unfolding bodyBytes
 head-reads s f =
@@ -78,7 +78,7 @@ index-read s f =
     get-append-right 2 (form headSize (headFields s)) table headSize tableIndexPlace (length-form headSize (headFields s))
     ∙ table-reads (s .logInterval .state) (s .index) (s .history) (f .logInterval) (f .index) .1 .1 .1 .1 .0
 
--- the history, read from the body
+-- the history is read back from the body
 part-history : (s : Saved) → length (s .history) ≡ historySize → part (bodyBytes s) (headSize + tableHeadSize) historySize ≡ s .history
 unfolding bodyBytes tableBytes
 part-history s e =
@@ -126,7 +126,7 @@ saved-back s f =
       index = index-read s f i;
     }
 
--- .. and what a body says is the same read from it alone, or in place
+-- .. and a body decodes to the same values, read from it alone or in place
 pub saved-at : (run : List ℕ) (at : ℕ) → savedIn (part run at bodySize) ≡ savedAt run at
 unfolding savedAt
 saved-at run at =
@@ -145,12 +145,12 @@ saved-at run at =
       index = number 2 (headSize + tableIndexPlace) (omega arith) j;
     }
 
--- .. and the body of values in range holds
+-- .. and a body of values in range holds
 pub body-holds : (s : Saved) → SavedFits s → inRange s ≡ true → bodyHolds (bodyBytes s) ≡ true
 unfolding bodyHolds
 body-holds s f r = rw (saved-back s f, same-refl (bodyBytes s)) r
 
--- an entry is made of bytes
+-- the elements of an entry are bytes
 pub bytes-body : (s : Saved) → Bytes (s .history) → Bytes (bodyBytes s)
 unfolding bodyBytes
 bytes-body s b =
@@ -166,7 +166,7 @@ bytes-trailer k = bytes-append (form tagPlace (trailerFields k)) tag (bytes-form
         bytes-cons 0x53 (drop 1 tag) (omega arith)
         (bytes-cons 0x43 (drop 2 tag) (omega arith) (bytes-cons 0x54 (drop 3 tag) (omega arith) (bytes-cons 0x45 [] (omega arith) bytes-nil)))
 
--- what is read from a body of bytes fits
+-- the values that are read from a body of bytes fit their places
 pub read-fits : (b : List ℕ) → Bytes b → length b ≡ bodySize → SavedFits (savedIn b)
 unfolding savedAt
 read-fits b h e =
@@ -219,7 +219,7 @@ parts-range s r =
       lt-ltb (s .index) historySize (r .index),
     )
 
--- values in range fit, with a life maximum and a history of bytes
+-- values in range fit their places, if the life maximum and the history are bytes
 pub range-fits : (s : Saved) → Ranged s → s .lifeMaximum < 256 → length (s .history) ≡ historySize → Bytes (s .history) → SavedFits s
 range-fits s r m w b =
     record {
@@ -236,7 +236,7 @@ range-fits s r m w b =
 
 -- ---- "all entries have the same N"
 
--- what the test `alike` says of two entries
+-- what the test `alike` states about two entries
 pub record AreAlike (a b : Saved) : Type 0 where
   pub sameNative : b .native ≡ a .native
 
@@ -251,7 +251,7 @@ parts-alike a b r = eq-eqb (b .native) (a .native) (r .sameNative)
 pub alike-self : (s : Saved) → AreAlike s s
 alike-self s = record { sameNative = refl }
 
--- entries that are alike are alike the same others
+-- if two entries are alike, any other entry is like both or like neither
 pub alike-others : (a b s : Saved) → AreAlike a b → alike a s ≡ alike b s
 unfolding alike
 alike-others a b s r = ap (eqb (s .native)) (sym (r .sameNative))

@@ -1,4 +1,4 @@
--- What is asked of what a step is fed: that bytes are bytes, and nothing else.
+-- What is required of what a step is fed: that bytes are bytes, and nothing else.
 use Prim.Native.Nat.{ℕ, _<_}
 use Rattle.wire.specs.Bytes.{Bytes}
 use Rattle.model.specs.Step.{OwnerStep, lock, unlock, setVisible, sample, Step, take, serve, give, work, owner, save, powerOn}
@@ -27,7 +27,7 @@ owner-fed unlock r = tt
 owner-fed (setVisible v) r = tt
 owner-fed (sample reading) r = r
 
--- THEOREM: a step whose mailbox, image and reading are bytes is fed what it may be fed.
+-- THEOREM: a step whose mailbox, image and reading are bytes is fed valid input.
 pub fed : (x : Step) → Bytes (mailboxOf x) → Bytes (imageOf x .0) → readingOf x < 256 → Fed x
 fed (take p m) b i r = b
 fed (serve s) b i r = tt

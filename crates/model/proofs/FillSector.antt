@@ -47,7 +47,7 @@ module _ (s : Serving) (M : Machine) (m : List ℕ) (port : s .port < portCount)
       sector-after (decision (withCode 0x0000 (interrupt (M .device))) (good 0 0) (writing (newFill first end (dataOf m))))
       (decided-data s M m port held write 1 e ∙ rw (pends, interrupt-kept (M .device), unlocked))
 
-  -- a status read leaves a running fill its sector
+  -- a status read does not change the sector of a running fill
   pub status-sector : (first next end : ℕ) → requestOf m ≡ statusRead → M .device .locked ≡ false → M .device .command .fill ≡ running first next end
       → serveOn s M .state .sector ≡ M .sector
   status-sector first next end e unlocked runs =

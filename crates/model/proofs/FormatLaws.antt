@@ -1,4 +1,4 @@
--- Laws of the formats: what stands at each place that document 01 names, and 0 everywhere else.
+-- Laws of the formats: what is at each place that document 01 names, and 0 everywhere else.
 use mathlib.Core.Path.{_≡_, refl, ap, _∙_}
 use mathlib.Core.Bool.{true, _||_}
 use Prim.Native.Nat.{ℕ, zero, _+_, _-_, _/_, _%_, _^_, _≤_, _<_}
@@ -132,14 +132,14 @@ table-reads interval index history i x =
     reads-front fields 0 tableHeadSize (form tableHeadSize fields) history refl (rw (length-form tableHeadSize fields) (omega arith))
     (reads-form tableHeadSize fields refl (omega arith, (i, (omega arith, (omega arith, (x, tt))))))
 
--- the fixed numbers in front, and byte by byte
+-- the fixed numbers at the front; bytes 6-9 one by one
 table-front : (interval index : ℕ)
     → let t = form tableHeadSize (tableFields interval index) in
     (get 2 t 0 ≡ 0x0002) × (get 2 t 2 ≡ 1) × (get 1 t 6 ≡ 0x3C) × (get 1 t 7 ≡ 0x46) × (get 1 t 8 ≡ 0x05) × (get 1 t 9 ≡ 0xF6)
 unfolding form put le get
 table-front interval index = (refl, refl, refl, refl, refl, refl)
 
--- the bytes 10 to 29 are in no field
+-- bytes 10 to 29 belong to no field
 table-gap : (interval index : ℕ) → below 30 (λ i. ltb i 10 || outside (tableFields interval index) i) ≡ true
 table-gap interval index = refl
 

@@ -1,4 +1,4 @@
--- No sector outside the visible disk of that moment is ever written, and an effect writes within its span.
+-- No sector outside the current visible disk is ever written, and an effect writes only within its span.
 use mathlib.Core.Path.{_≡_, refl, sym, ap, _∙_}
 use mathlib.Core.Logic.{_⊎_, inl, inr}
 use Prim.Native.Nat.{ℕ, zero, suc, _+_, _-_, _*_, _≤_, _<_, min}
@@ -25,13 +25,13 @@ use Rattle.model.proofs.WorkLaws.{work-disk, work-idle}
 use Rattle.model.proofs.ValidRequest.{WritingValid, DecisionValid, decide-valid}
 use Rattle.model.proofs.ValidStep.{request-held}
 
--- what is written lies on the visible disk
+-- what is written is on the visible disk
 pub span-visible : (d : Device) (w : Writing) → WritingValid d w → spanOf w .end ≤ d .visible
 span-visible d noWrite v = omega arith
 span-visible d (oneSector lba sector) v = v .0
 span-visible d (newFill first end sector) v = v .1
 
--- writing changes nothing outside its span
+-- a write changes nothing outside its span
 pub outside-span : (w : Writing) (v : Volume) → WritingValid (v .device) w → (i : ℕ)
     → (i < sectorSize * spanOf w .first) ⊎ (sectorSize * spanOf w .end ≤ i) → getD (written w v .disk .sectors) i 0 ≡ getD (v .disk .sectors) i 0
 unfolding writeSector
@@ -45,7 +45,7 @@ outside-span (newFill first end sector) v k i h = refl
 abbrev SameHidden : ℕ → Disk → Disk → Type 0
 SameHidden visible after before = hiddenPart visible after ≡ hiddenPart visible before
 
--- bytes stored below V leave the hidden part
+-- bytes stored below V do not change the hidden part
 stored-hidden : (disk : Disk) (bytes : List ℕ) (lba visible : ℕ) → sectorSize * lba + length bytes ≤ sectorSize * visible
     → SameHidden visible (record { sectors = sets (disk .sectors) (sectorSize * lba) bytes }) disk
 stored-hidden disk bytes lba visible h =

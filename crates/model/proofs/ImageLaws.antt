@@ -1,4 +1,4 @@
--- Laws of the saved image: every entry, the chain of trailers, and the form that an image is read in.
+-- Laws of the saved image: every entry, the chain of trailers, and the form of a readable image.
 use mathlib.Core.Path.{_≡_, refl, sym, ap, ap₂, _∙_, subst}
 use mathlib.Core.Bool.{Bool, true, false, _&&_}
 use Prim.Native.Nat.{ℕ, zero, suc, _+_, _-_, _*_, _%_, _≤_, _<_}
@@ -42,7 +42,7 @@ previous-place k h = rw (ne-eqb (suc k) 1 (omega arith)) (omega arith)
 trailer-reads : (k : ℕ) → k ≤ entryLimit → get 4 (trailerBytes k) linkPlace ≡ previousPlace k
 trailer-reads k h = get-trailer k linkPlace (omega arith) ∙ trailer-fields k h .1 .0
 
--- what the test of an entry says
+-- what the test of an entry states
 entry-held : (latest : Saved) (image : List ℕ) (k : ℕ) → entryHolds latest image k ≡ true
     → (bodyHolds (bodyAt image k) ≡ true) × AreAlike latest (savedIn (bodyAt image k)) × (trailerAt image k ≡ trailerBytes k)
 unfolding entryHolds
@@ -51,12 +51,12 @@ entry-held latest image k h =
     let parts = and-three (bodyHolds body) (alike latest (savedIn body)) (same (trailerAt image k) (trailerBytes k)) h in
     (parts .0, alike-parts latest (savedIn body) (parts .1), same-true (trailerAt image k) (trailerBytes k) (parts .2))
 
--- an entry holds beside any newest entry that is alike
+-- whether an entry holds is the same for two newest entries that are alike
 pub holds-alike : (a b : Saved) (image : List ℕ) (k : ℕ) → AreAlike a b → entryHolds a image k ≡ entryHolds b image k
 unfolding entryHolds
 holds-alike a b image k r = rw (alike-others a b (savedIn (bodyAt image k)) r)
 
--- "follows the chain back": the trailer of an entry that holds leads to the one before
+-- "follows the chain back": the trailer of an entry that holds points to the trailer before it
 previous-read : (latest : Saved) (image : List ℕ) (k : ℕ) → k ≤ entryLimit → entryHolds latest image k ≡ true
     → get 4 image (trailerPlace k + linkPlace) ≡ previousPlace k
 previous-read latest image k h e =
@@ -64,7 +64,7 @@ previous-read latest image k h e =
     ∙ ap (λ (l : List ℕ). get 4 l linkPlace) (entry-held latest image k e .2)
     ∙ trailer-reads k h
 
--- The recursion from the last trailer says that every entry holds.
+-- The recursion from the last trailer is true exactly if every entry holds.
 pub chain-every : (latest : Saved) (image : List ℕ) (n : ℕ) → n ≤ entryLimit
     → chainHolds latest image n (previousPlace (suc n)) ≡ every n (entryHolds latest image)
 unfolding chainHolds
@@ -80,7 +80,7 @@ chain-every latest image (suc k) h =
 
 -- ---- the form of an image
 
--- "Entries of 560 bytes: 544 of body, a 16-byte trailer at the end": entry k, of values in range that fit, and like one saved value.
+-- "Entries of 560 bytes: 544 of body, a 16-byte trailer at the end": entry k, of values that are in range, fit, and are like the latest.
 pub record EntryForm (latest : Saved) (image : List ℕ) (k : ℕ) : Type 0 where
   pub saved : Saved
   pub fits : SavedFits saved
@@ -124,7 +124,7 @@ trailer-formed latest image k h e =
     ∙ ap (λ (l : List ℕ). part l bodySize trailerSize) (e .bytes)
     ∙ part-append-right (bodyBytes (e .saved)) (trailerBytes k) bodySize trailerSize (length-body (e .saved) (e .fits .whole)) (length-trailer k)
 
--- what such an entry says, and that it holds
+-- what such an entry decodes to, and that it holds
 pub form-saved : (latest : Saved) (image : List ℕ) (k : ℕ) → 1 ≤ k → (e : EntryForm latest image k) → savedIn (bodyAt image k) ≡ e .saved
 form-saved latest image k h e = ap savedIn (body-formed latest image k h e) ∙ saved-back (e .saved) (e .fits)
 
@@ -136,11 +136,11 @@ form-holds latest image k h e =
     (rw (form-saved latest image k h e) (parts-alike latest (e .saved) (e .like)))
     (rw (trailer-formed latest image k h e) (same-refl (trailerBytes k)))
 
--- a part that has its whole length lies within the run
+-- a part that has its full length is within the run
 part-within : (l : List ℕ) (b n : ℕ) → 0 < n → length (part l b n) ≡ n → b + n ≤ length l
 part-within l b n p e = omega (arith, rw (length-take, length-drop) at e)
 
--- a body that holds is the body of what it says, in range
+-- a body that holds is the body of the values that it decodes to, and they are in range
 body-parts : (b : List ℕ) → bodyHolds b ≡ true → (bodyBytes (savedIn b) ≡ b) × (inRange (savedIn b) ≡ true)
 unfolding bodyHolds
 body-parts b h =
@@ -189,7 +189,7 @@ parts-readable image used r =
     (le-leb used (entrySize * entryLimit) (r .most))
     (all-every (entries used) holds (r .each))
 
--- THEOREM: an image of bytes is readable exactly where it has the form.
+-- THEOREM: an image of bytes is readable exactly if it has the form.
 pub readable-form : (image : List ℕ) (used : ℕ) → Bytes image → readable image used ≡ true → ImageForm image used
 readable-form image used b h =
     let r = readable-parts image used h in
@@ -233,7 +233,7 @@ form-readable image used f =
 pub newest-at : (image : List ℕ) (used : ℕ) → used % entrySize ≡ 0 → entrySize ≤ used → newest image used ≡ savedAt image (used - entrySize)
 newest-at image used whole some = saved-at image (trailerPlace (entries used) - bodySize) ∙ ap (savedAt image) (omega arith)
 
--- "newest entry's N is not this disk's": N stands first in it
+-- "newest entry's N is not this disk's": N is its first field
 newest-native : (image : List ℕ) (used : ℕ) → used % 560 ≡ 0 → 560 ≤ used → newest image used .native ≡ get 8 image (used - 560)
 unfolding savedAt
 newest-native image used whole some = ap (λ (s : Saved). s .native) (newest-at image used whole some) ∙ ap (get 8 image) (add-zero (used - 560))

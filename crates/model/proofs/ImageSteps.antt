@@ -1,4 +1,4 @@
--- What the steps save and power-on leave where they answer 0, and what is seen of them.
+-- What the steps save and power-on leave when they answer 0, and what the firmware sees of them.
 use mathlib.Core.Path.{_≡_, refl, sym, ap, _∙_}
 use Prim.Native.Nat.{ℕ, suc, _+_, _/_}
 use native.Mathlib.Omega.{arith}
@@ -38,7 +38,7 @@ save-leaves image used M done =
 
 -- ---- power-on
 
--- "slots empty"; the device is the one restored, on the disk as it is
+-- "slots empty"; the device is the restored one, and the disk is unchanged
 pub record IsOn (image : List ℕ) (used : ℕ) (M N : Machine) : Type 0 where
   pub device : N .device ≡ powerOnDevice (restored (length (M .disk .sectors) / 512) image used)
   pub ports : (p : ℕ) → N .ports p ≡ empty

@@ -1,4 +1,4 @@
--- Laws of the key sector, in document 01's words: which row decides, and what an accepted fill, timer or feature is.
+-- Laws of the key sector, in document 01's words: which row decides, and what an accepted fill, timer or feature asks for.
 use mathlib.Core.Path.{_≡_, refl, sym, ap, _∙_}
 use mathlib.Core.Bool.{Bool, true, false, not, _&&_, _||_}
 use mathlib.Core.Logic.{_⊎_, inl, inr}
@@ -52,7 +52,7 @@ verdict-accepted : (n : ℕ) (a b : Action) → verdict n a ≡ accepted b → (
 verdict-accepted zero a b e = (refl, cc)
 verdict-accepted (suc n) a b e = absurd (let z : _≡_ {A = ℕ} 0 1 = cc in omega arith)
 
--- a key is accepted where every row holds, and then asks what its words say
+-- an accepted key passes every row, and asks for what its words encode
 pub key-accepted : (d : Device) (k : List ℕ) (a : Action) → judgeKey d k ≡ accepted a → AllPass (keyChecks d k) × (a ≡ actionOf (d .visible) k)
 unfolding judgeKey
 key-accepted d k a e =
@@ -66,7 +66,7 @@ verdict-rejected (suc n) a code e = cc
 
 -- ---- fills
 
--- "Start + Count is a whole-number sum; it never wraps": of an accepted fill it is at most the last user LBA
+-- "Start + Count is a whole-number sum; it never wraps": for an accepted fill it is at most the last user LBA
 pub accepted-fill-sum : (d : Device) (k : List ℕ) (a : Action) → word k 0 ≡ 2 → judgeKey d k ≡ accepted a → start k + count k ≤ d .visible - 1
 unfolding keyChecks
 accepted-fill-sum d k a two e =
@@ -100,14 +100,14 @@ pattern-bytes k i size h =
     ∙ ap (λ (l : List ℕ). getD l (i % 4) 0) (part-repeated 128 (part k 20 4) 4 (i / 4) four (omega arith))
     ∙ getD-part k 20 4 (i % 4) (omega arith)
 
--- ---- every accepted key asks what is in range
+-- ---- what an accepted key asks for is in range
 
 abbrev pub featureNumber : FeatureName → ℕ
 featureNumber writeCache = 1
 featureNumber reordering = 2
 featureNumber logInterval = 3
 
--- what an action's values have to meet, on a disk of this visible size
+-- what an action's values must satisfy, for this visible size
 abbrev pub ActionValid : ℕ → Action → Type 0
 ActionValid visible (fillPattern first end sector) = (first < end) × (end ≤ visible) × Sized sectorSize sector
 ActionValid visible (fillSector first end) = (first < end) × (end ≤ visible)
@@ -118,7 +118,7 @@ ActionValid visible (returnState f) = Unit {0}
 ActionValid visible (returnOption f) = Unit {0}
 ActionValid visible sendTable = Unit {0}
 
--- "1 to 9" refused leaves 0, which is off, and 10 or more
+-- with "1 to 9" refused, 0 (off) and 10 or more are left
 timer-range : (n : ℕ) → between 1 n 9 ≡ false → TimerValid n
 timer-range n e = go (decLt n 1) (decLt 9 n)
   where
@@ -129,7 +129,7 @@ timer-range n e = go (decLt n 1) (decLt 9 n)
         let t = between-within 1 n 9 (omega arith) (omega arith) in
         absurd (let z : _≡_ {A = ℕ} 0 1 = cc in omega arith)
 
--- a feature's name has its number's states
+-- a feature's number and the feature that it names have the same states
 highest-named : (n : ℕ) → highestState (featureNumber (featureName n)) ≡ highestState n
 highest-named n = go (eqb n 1) (eqb n 2)
   where
@@ -188,7 +188,7 @@ module _ (visible : ℕ) (k : List ℕ) (some : 1 ≤ visible) (size : length k 
       go false true e = tt
       go false false e = tt
 
-  -- what the words of an accepted key say is in range
+  -- what the words of an accepted key ask for is in range
   action-valid : AllPass (actionChecks visible k) → ActionValid visible (actionOf visible k)
   unfolding actionOf
   action-valid = go (eqb (word k 0) 2) (eqb (word k 0) 3) (eqb (word k 0) 4)

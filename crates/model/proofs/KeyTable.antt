@@ -1,4 +1,4 @@
--- The key table of document 01, row by row: a key that passes the rows before and fails this one gets this code.
+-- The key table of document 01, row by row: a key that passes the rows above and fails this one gets this code.
 use mathlib.Core.Path.{_≡_, refl, sym, ap, _∙_}
 use mathlib.Core.Bool.{Bool, true, false, not, _&&_, _||_}
 use Prim.Native.Nat.{ℕ, zero, suc, _+_, _-_, _≤_, _<_}
@@ -11,7 +11,7 @@ use Rattle.wire.proofs.ChoiceLaws.{between-true, between-within}
 use Rattle.model.specs.Device.{Device}
 use Rattle.model.specs.Key.{word, start, count, keyChecks, highestState, actionOf, Verdict, accepted, rejected, verdict, judgeKey}
 
--- low ≤ x ≤ high, and its contrary
+-- low ≤ x ≤ high, and its negation
 abbrev pub Within : ℕ → ℕ → ℕ → Type 0
 Within low x high = between low x high ≡ true
 
@@ -92,7 +92,7 @@ module _ (d : Device) (k : List ℕ) where
       unfolding judgeKey keyChecks
       table-name f n = rw (unlocked, table, f, ne-eqb (word k 2) 2 n)
 
--- ---- a key that passes every row is accepted, with what its words ask
+-- ---- a key that passes every row is accepted, with what its words ask for
 
 module _ (d : Device) (k : List ℕ) (unlocked : d .locked ≡ false) where
   abbrev isAccepted : Type 0

@@ -1,4 +1,4 @@
--- What the names of the definitions stand for, in the numbers of document 01: sizes, codes, registers, sides of a transfer, stages.
+-- The values of the named definitions, in the numbers of document 01: sizes, codes, registers, transfer directions, stages.
 use mathlib.Core.Path.{_≡_, refl, sym}
 use mathlib.Core.Bool.{true, false}
 use Prim.Native.Nat.{ℕ, _+_}
@@ -63,7 +63,7 @@ pub fill-started : (first end : ℕ) (d : Device)
     → (startFill first end d .command .code ≡ 0xFFFF) × (startFill first end d .command .fill ≡ running first first end)
 fill-started first end d = (refl, refl)
 
--- ---- the sectors that are written: the first, and the first behind them
+-- ---- the sectors that are written: the first, and the first after them
 
 pub span-write : (lba : ℕ) (sector : List ℕ) → (spanOf (oneSector lba sector) .first ≡ lba) × (spanOf (oneSector lba sector) .end ≡ lba + 1)
 span-write lba sector = (refl, omega arith)
@@ -108,7 +108,7 @@ stages-request m = (refl, refl, refl)
 pub stages-reply : (m : List ℕ) → (isEmpty (reply m) ≡ false) × (isRequest (reply m) ≡ false) × (isReply (reply m) ≡ true)
 stages-reply m = (refl, refl, refl)
 
--- a first power-on is judged as any power-on
+-- a first power-on is checked like any power-on
 pub first-answer : (image : List ℕ) (used : ℕ) (M : Machine) → firstAnswer (M .disk) image used ≡ step (powerOn image used) M .seen .answer
 unfolding firstAnswer
 first-answer image used M = sym (answer-is (powerOn image used) M)

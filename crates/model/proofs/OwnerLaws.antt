@@ -1,4 +1,4 @@
--- Laws of stopping a fill, of lock, unlock and set V.
+-- Laws of stopping a fill, and of lock, unlock and set V.
 use mathlib.Core.Path.{_≡_, refl, ap}
 use mathlib.Core.Bool.{Bool, true, false, and-true, and-false}
 use Prim.Native.Nat.{ℕ, _≤_}
@@ -47,7 +47,7 @@ pub unlock-quiet : (M : Machine) → Quiet (step (owner unlock) M .state .device
 unfolding step setLock
 unlock-quiet M = let q = interrupt-quiet (M .device) in (record { noFill = q .noFill; noTransfer = q .noTransfer }, refl)
 
--- N, V, flag, settings, temperatures, action, function, ports and disk are as they were
+-- N, V, flag, settings, temperatures, action, function, ports and disk are unchanged
 pub record LockKeeps (M N : Machine) : Type 0 where
   pub sizes : (N .device .native ≡ M .device .native) × (N .device .visible ≡ M .device .visible)
   pub initialized : N .device .initialized ≡ M .device .initialized
@@ -76,7 +76,7 @@ pub lock-keeps : (M : Machine) → LockKeeps M (step (owner lock) M .state) × L
 unfolding step
 lock-keeps M = (lock-kept true M, lock-kept false M)
 
--- the same, but for the flag: it has laws of its own
+-- the same, except for the flag, which has its own laws
 pub record VisibleKeeps (M N : Machine) : Type 0 where
   pub native : N .device .native ≡ M .device .native
   pub locked : N .device .locked ≡ M .device .locked
@@ -90,7 +90,7 @@ module _ (v : ℕ) (M : Machine) (some : 1 ≤ v) (most : v ≤ M .device .nativ
   visible-set : step (owner (setVisible v)) M ≡ record { state = does (owner (setVisible v)) M; seen = seenDone (owner (setVisible v)) M }
   visible-set = step-done (owner (setVisible v)) M (pass-all (checks (owner (setVisible v)) M) (between-within 1 v (M .device .native) some most, tt))
 
-  -- a fill is not carried on after V changed
+  -- a fill does not continue after V has changed
   pub visible-quiet : Quiet (step (owner (setVisible v)) M .state .device)
   unfolding setVisibleDevice
   visible-quiet = let q = interrupt-quiet (M .device) in rw visible-set (record { noFill = q .noFill; noTransfer = q .noTransfer })
@@ -108,7 +108,7 @@ module _ (v : ℕ) (M : Machine) (some : 1 ≤ v) (most : v ≤ M .device .nativ
   unfolding setVisibleDevice
   visible-same e = rw (visible-set, eq-eqb v (M .device .visible) e) (and-true (M .device .initialized))
 
-  -- a new V leaves N, the lock, settings, temperatures, action, function, ports and disk
+  -- a new V does not change N, the lock, settings, temperatures, action, function, ports and disk
   pub visible-keeps : VisibleKeeps M (step (owner (setVisible v)) M .state)
   unfolding setVisibleDevice
   visible-keeps =
@@ -139,7 +139,7 @@ pub visible-code : (v : ℕ) (M : Machine) → 1 ≤ v → v ≤ M .device .nati
 unfolding setVisibleDevice
 visible-code v M some most first next end e = rw (visible-set v M some most) (interrupt-code-running (M .device) first next end e)
 
--- ---- with no fill the stored code stays
+-- ---- with no fill the stored code is unchanged
 
 pub lock-code-idle : (M : Machine) → M .device .command .fill ≡ idle
     → (step (owner lock) M .state .device .command .code ≡ M .device .command .code) × (step (owner unlock) M .state .device .command .code ≡ M .device .command .code)

@@ -1,4 +1,4 @@
--- Laws of power-on: the device that it gives is valid, and what is kept over power.
+-- Laws of power-on: the resulting device is valid, and which values are kept over power.
 use mathlib.Core.Path.{_≡_, refl, ap, _∙_}
 use mathlib.Core.Bool.{Bool, true, false}
 use mathlib.Core.Logic.{inl}

@@ -1,4 +1,4 @@
--- The action and function that the device records from every key, and that stopping a fill leaves.
+-- The action and function that the device records from every key, and that stopping a fill does not change.
 use mathlib.Core.Path.{_≡_, refl, _∙_}
 use Prim.Native.Nat.{ℕ, _<_}
 use native.Mathlib.Omega.{arith}
@@ -51,7 +51,7 @@ module _ (s : Serving) (M : Machine) (m : List ℕ) (port : s .port < portCount)
       go (accepted (returnOption f)) j = from _ (serves-return-option s M m port held f e j .deviceAfter) refl refl
       go (accepted sendTable) j = from _ (serves-send-table s M m port held e j .deviceAfter) refl refl
 
--- stopping a fill and dropping a transfer leave both
+-- stopping a fill and dropping a transfer change neither
 pub interrupt-recorded : (d : Device) → Recorded (interrupt d) (d .command .action) (d .command .function)
 unfolding interrupt
 interrupt-recorded d = record { isAction = a (d .command .fill); isFunction = f (d .command .fill) }

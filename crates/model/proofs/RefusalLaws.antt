@@ -1,4 +1,4 @@
--- The answer table of document 01, row by row: a step that passes the rows before and fails this one has this answer.
+-- The answer table of document 01, row by row: a step that passes the rows above and fails this one has this answer.
 use mathlib.Core.Path.{_≡_, _∙_}
 use mathlib.Core.Bool.{true, false}
 use Prim.Native.Nat.{ℕ, _/_, _≤_, _<_}

@@ -1,4 +1,4 @@
--- Laws of the registers: which bytes make which request, and which bytes are ignored.
+-- Laws of the registers: which bytes encode which request, and which bytes are ignored.
 use mathlib.Core.Path.{_≡_, refl, sym, ap, _∙_}
 use mathlib.Core.Bool.{Bool, true, false, _&&_, and-false}
 use mathlib.Core.Logic.{_⊎_, inl, inr}
@@ -52,7 +52,7 @@ pub page-data : (d : Direction) (count : ℕ) → logPage d 0xE1 count ≡ dataT
 unfolding logPage
 page-data d count = refl
 
--- "E0h with another count" is all else
+-- "E0h with another count" is treated as all else
 pub page-count : (d : Direction) (count : ℕ) → eqb count 1 ≡ false → logPage d 0xE0 count ≡ other
 unfolding logPage
 page-count d count e = rw e
@@ -190,7 +190,7 @@ pub page-other : (d : Direction) (page count : ℕ) → (page ≡ 0xE0 → ⊥) 
 unfolding logPage
 page-other d page count a b = rw (ne-eqb page 0xE0 a, ne-eqb page 0xE1 b)
 
--- no command but B0h, 2Fh, 3Fh, 24h and 34h
+-- a command other than B0h, 2Fh, 3Fh, 24h and 34h
 pub record NoCommand (c : ℕ) : Type 0 where
   pub notSmart : c ≡ 0xB0 → ⊥
   pub notReadLog : c ≡ 0x2F → ⊥

@@ -1,4 +1,4 @@
--- Condition 2 for requests: for each kind of request its reply, and the device and the disk afterwards.
+-- Condition 2 for requests: for each kind of request, its reply, and the device and the disk afterwards.
 use mathlib.Core.Path.{_≡_, refl, ap, _∙_}
 use mathlib.Core.Bool.{Bool, true, false}
 use Prim.Native.Nat.{ℕ, suc, _*_, _≤_, _<_}
@@ -28,7 +28,7 @@ use Rattle.model.proofs.StepLaws.{step-done, port-same, port-other}
 abbrev pub serveOn : Serving → Machine → Outcome Machine
 serveOn s M = step (serve s) M
 
--- A port is served: it then holds this reply, the others what they held, and device and disk are these.
+-- Port `s .port` is served: it then holds this reply, the other ports are unchanged, and the device and the disk are these.
 pub record Serves (s : Serving) (M : Machine) (answer : List ℕ) (d : Device) (disk : Disk) : Type 0 where
   pub isSeen : serveOn s M .seen ≡ answerOnly done
   pub replied : serveOn s M .state .ports (s .port) ≡ reply answer
@@ -36,7 +36,7 @@ pub record Serves (s : Serving) (M : Machine) (answer : List ℕ) (d : Device) (
   pub deviceAfter : serveOn s M .state .device ≡ d
   pub diskAfter : serveOn s M .state .disk ≡ disk
 
--- stopping a fill leaves all but the command's state
+-- stopping a fill changes only the state of the last command
 stop-kept : (f : Fill) (ts : List Transfer) (d : Device) → withPending ts (stopFill f d) ≡ withCommand (withPending ts (stopFill f d) .command) d
 stop-kept idle ts d = refl
 stop-kept (running first next end) ts d = refl
@@ -242,7 +242,7 @@ module _ (s : Serving) (M : Machine) (m : List ℕ) (port : s .port < portCount)
   pub sector-range : (lba : ℕ) → M .device .locked ≡ false → M .device .visible ≤ lba → sectorError 1 lba ≡ 0x10
   sector-range lba unlocked h = rw (unlocked, le-ltb lba (M .device .visible) h)
 
-  -- the sector is written at its place, every other byte stays, and the flag is cleared
+  -- the sector is written at its place, every other byte is unchanged, and the flag is cleared
   pub serves-write : (lba : ℕ) → requestOf m ≡ sectorAccess write 1 lba → M .device .locked ≡ false → lba < M .device .visible
       → Serves s M (replyBytes (good 0 0) []) (withInitialized false (interrupt (M .device))) (record { sectors = sets (M .disk .sectors) (sectorSize * lba) (dataOf m) })
   unfolding decideSector writeSector

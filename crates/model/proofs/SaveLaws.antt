@@ -1,4 +1,4 @@
--- Laws of a save: it adds one entry and leaves every other byte, and power-on reads back what was saved.
+-- Laws of a save: it adds one entry and changes no other byte, and power-on reads back what was saved.
 use mathlib.Core.Path.{_≡_, refl, ap, _∙_}
 use mathlib.Core.Bool.{Bool, true, false, _||_}
 use Prim.Native.Nat.{ℕ, suc, _+_, _-_, _*_, _/_, _%_, _≤_, _<_}
@@ -74,7 +74,7 @@ pub bytes-saved : (d : Device) (image : List ℕ) (used : ℕ) → Valid d → B
 unfolding savedImage
 bytes-saved d image used v b = bytes-sets (added d used) image used b (bytes-added d used v)
 
--- "other bytes stay": those before the used length, and those behind the new one
+-- "other bytes stay": those before the used length, and those from the new used length on
 pub saved-before : (d : Device) (image : List ℕ) (used i : ℕ) → i < used → getD (savedImage d image used) i 0 ≡ getD image i 0
 unfolding savedImage
 saved-before d image used i h = getD-sets-before (added d used) image used i h
@@ -83,7 +83,7 @@ pub saved-after : (d : Device) (image : List ℕ) (used i : ℕ) → Valid d →
 unfolding savedImage
 saved-after d image used i v h = getD-sets-after (added d used) image used i (rw (length-added d used v) h)
 
--- the entries before hold as they did
+-- the earlier entries hold as before
 entry-before : (latest : Saved) (d : Device) (image : List ℕ) (used k : ℕ) → 1 ≤ k → entrySize * k ≤ used
     → entryHolds latest (savedImage d image used) k ≡ entryHolds latest image k
 unfolding savedImage entryHolds
@@ -95,7 +95,7 @@ entry-before latest d image used k low h =
 
 -- ---- a save that passes its checks, and the power-on after it
 
--- what the checks of a save say
+-- what the checks of a save state
 pub record SaveAccepted (native : ℕ) (image : List ℕ) (used : ℕ) : Type 0 where
   pub readableBefore : Readable image used
   pub ownDisk : sameDisk native image used ≡ true
@@ -148,7 +148,7 @@ module _ (d : Device) (image : List ℕ) (used : ℕ) (valid : Valid d) (passed 
   unfolding savedFrom
   newest-native = ap (λ (s : Saved). s .native) newest-saved
 
-  -- the entries before are this disk's, and the new one is alike the newest of them
+  -- the earlier entries are this disk's, and the new one is like the newest of them
   like-before : 1 ≤ entries used → AreAlike (savedFrom d) (newest image used)
   unfolding savedFrom
   like-before h =

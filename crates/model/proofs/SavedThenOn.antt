@@ -1,4 +1,4 @@
--- A save that is answered 0, and then a power-on from that image on that disk.
+-- A save that answers 0, and then a power-on from that image on that disk.
 use mathlib.Core.Path.{_≡_, sym, ap, _∙_}
 use Prim.Native.Nat.{ℕ, _+_, _*_, _/_}
 use native.Mathlib.Omega.{arith}
@@ -16,7 +16,7 @@ use Rattle.model.proofs.SaveLaws.{power-on-after-save, restored-saved}
 use Rattle.model.proofs.PowerOnLaws.{KeptRules, kept-rules}
 use Rattle.model.proofs.ImageSteps.{power-on-leaves}
 
--- N is a machine on the disk of M: it may have gone on since, but for its size
+-- N is a machine on the same disk as M: since the save the disk may have changed, except in size
 module _ (M N : Machine) (image : List ℕ) (used : ℕ) (ok : MachineValid M) (disk : length (N .disk .sectors) ≡ length (M .disk .sectors)) (saves : step (save image used) M .seen .answer ≡ 0) where
   abbrev saved : Seen
   saved = step (save image used) M .seen

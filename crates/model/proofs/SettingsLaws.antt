@@ -1,4 +1,4 @@
--- Laws of timers and features: what a set changes, what stays, and what a return reads.
+-- Laws of timers and features: what a set changes, what it leaves unchanged, and what a return reads.
 use mathlib.Core.Path.{_≡_, refl}
 use Prim.Native.Nat.{ℕ}
 use lib.ListN.{replicate}
@@ -21,14 +21,14 @@ as-they-are : (s : Settings) → Has s (s .readTimer) (s .writeTimer) (s .writeC
 as-they-are s = record { readTimer = refl; writeTimer = refl; writeCache = refl; reordering = refl; logInterval = refl }
 
 module _ (s : Settings) (n : ℕ) (f : Feature) where
-  -- the timer that is set has the value, and all else stays
+  -- the timer that is set has the value, and everything else is unchanged
   pub set-read : Has (withTimer read n s) n (s .writeTimer) (s .writeCache) (s .reordering) (s .logInterval)
   set-read = as-they-are (withTimer read n s)
 
   pub set-write : Has (withTimer write n s) (s .readTimer) n (s .writeCache) (s .reordering) (s .logInterval)
   set-write = as-they-are (withTimer write n s)
 
-  -- the feature that is set has the value, and all else stays
+  -- the feature that is set has the value, and everything else is unchanged
   pub set-cache : Has (withFeature writeCache f s) (s .readTimer) (s .writeTimer) f (s .reordering) (s .logInterval)
   set-cache = as-they-are (withFeature writeCache f s)
 
@@ -48,7 +48,7 @@ returned-features s = (refl, refl, refl)
 
 -- ---- "Any set of feature 3 empties the temperature history."
 
--- "Empty history is all 80h, index 477, minutes 0"; the temperatures stay
+-- "Empty history is all 80h, index 477, minutes 0"; the temperatures are unchanged
 pub record Emptied (before after : Thermal) : Type 0 where
   pub history : after .history ≡ replicate 478 0x80
   pub index : after .index ≡ 477
@@ -65,6 +65,6 @@ interval-empties d = record { history = refl; index = refl; minutes = refl; curr
 pub interval-keeps : (d : Device) → afterFeature logInterval d ≡ withThermal (afterFeature logInterval d .thermal) d
 interval-keeps d = refl
 
--- a set of feature 1 or 2 leaves the temperatures
+-- a set of feature 1 or 2 does not change the temperatures
 pub others-keep : (d : Device) → (afterFeature writeCache d ≡ d) × (afterFeature reordering d ≡ d)
 others-keep d = (refl, refl)

@@ -1,4 +1,4 @@
--- The starred examples of document 01 hold of the definitions.
+-- The starred examples of document 01 hold for the definitions.
 use mathlib.Core.Path.{_≡_, refl}
 use Prim.Native.Nat.{ℕ, _*_}
 use mathlib.Core.List.{List, [], _∷_, map}
@@ -17,7 +17,7 @@ use Rattle.model.specs.Step.{take, serve, give, Outcome, step, trace, se
 use Rattle.model.specs.Examples.{Example, evaluate, starred, keyMailbox, fillKey}
 use Rattle.model.specs.Sizes.{mailboxSize, sectorSize}
 
--- THEOREM: every starred example comes out as 01 says.
+-- THEOREM: every starred example has the outcome that 01 states.
 pub starred-hold : map (λ (e : Example × List ℕ). evaluate (e .0)) starred ≡ map (λ (e : Example × List ℕ). e .1) starred
 unfolding evaluate le get put form logPage smartLog requestOf keyChecks actionOf judgeKey repeated newMaximum sampled interrupt workCount carryOut decideKey decide sample powerOn
 starred-hold = refl

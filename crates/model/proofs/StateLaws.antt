@@ -1,4 +1,4 @@
--- The states of the three features: as a test, and as ranges.
+-- The states of the three features, as a test and as ranges.
 use mathlib.Core.Path.{_≡_}
 use mathlib.Core.Bool.{true}
 use Prim.Native.Nat.{ℕ, _≤_}

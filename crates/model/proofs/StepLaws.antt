@@ -18,7 +18,7 @@ pub step-done : (x : Step) (M : Machine) → firstFailed (checks x M) ≡ 0 → 
 unfolding step
 step-done x M e = ap (λ (n : ℕ). attempt n M (unchanged x n) (record { state = does x M; seen = seenDone x M })) e
 
--- "A nonzero answer changes nothing anywhere": the machine, the mailbox and the image are as they were, and the count is 0
+-- "A nonzero answer changes nothing anywhere": the machine, the mailbox and the image are unchanged, and the count is 0
 pub step-refused : (x : Step) (M : Machine) (n : ℕ) → firstFailed (checks x M) ≡ suc n → step x M ≡ record { state = M; seen = unchanged x (suc n) }
 unfolding step
 step-refused x M n e = ap (λ (n : ℕ). attempt n M (unchanged x n) (record { state = does x M; seen = seenDone x M })) e
@@ -42,7 +42,7 @@ unchanged-answer (owner x) n = refl
 unchanged-answer (save image used) n = refl
 unchanged-answer (powerOn image used) n = refl
 
--- an outcome that is done or refused by a number has that number for its answer
+-- the answer of an outcome that is done, or refused with a number, is that number
 pub answer-first : {S : Type 0} (x : Step) (n : ℕ) (o : Outcome S) (s t : S) (success : Seen) → success .answer ≡ done
     → (n ≡ 0 → o ≡ record { state = t; seen = success }) → ((k : ℕ) → n ≡ suc k → o ≡ record { state = s; seen = unchanged x (suc k) }) → o .seen .answer ≡ n
 answer-first {S} x zero o s t success e f g = ap (λ (y : Outcome S). y .seen .answer) (f refl) ∙ e
@@ -56,12 +56,12 @@ answer-is x M = answer-first x (firstFailed (checks x M)) (step x M) M (does x M
 pub order-numbers : refusalOrder ≡ 4 ∷ 2 ∷ 1 ∷ 5 ∷ 3 ∷ 6 ∷ 7 ∷ 8 ∷ []
 order-numbers = refl
 
--- how early a number stands in a list
+-- the position of a number in a list
 abbrev pub place : List ℕ → ℕ → ℕ
 place [] n = 0
 place (m ∷ ms) n = if eqb m n then 0 else suc (place ms n)
 
--- from a place of that order on, the checks' numbers keep to it
+-- from a position of that order on, the checks' numbers follow it
 abbrev pub keepsOrder : ℕ → List Check → Bool
 keepsOrder from [] = true
 keepsOrder from (c ∷ cs) = leb from (place refusalOrder (c .1)) && keepsOrder (place refusalOrder (c .1)) cs
@@ -109,7 +109,7 @@ give-delivers p m r M h size e =
     rw (step-done (give p m) M (pass-all (checks (give p m) M) (eq-eqb (length m) mailboxSize size, (lt-ltb p portCount h, (rw e, tt)))))
     (rw e, port-same p empty (M .ports))
 
--- a take or a give changes its port alone
+-- a take or a give changes only its port
 pub record PortAlone (p : ℕ) (M N : Machine) : Type 0 where
   pub device : N .device ≡ M .device
   pub disk : N .disk ≡ M .disk
@@ -126,7 +126,7 @@ give-alone p m M e =
     rw (step-done (give p m) M (sym (answer-is (give p m) M) ∙ e))
     (record { device = refl; disk = refl; sector = refl; others = λ q ne. port-other p q empty (M .ports) ne })
 
--- what give finds in the mailbox changes nothing
+-- the bytes in the mailbox before a give make no difference
 pub give-blind : (p : ℕ) (m n : List ℕ) (M : Machine) → length m ≡ length n → step (give p m) M .state ≡ step (give p n) M .state
 unfolding step
 give-blind p m n M e = rw e (go (firstFailed (checks (give p n) M)))
@@ -139,7 +139,7 @@ give-blind p m n M e = rw e (go (firstFailed (checks (give p n) M)))
 
 -- ---- the buffers
 
--- what a step is fed: a mailbox, an image, its used length; [] and 0 where it is fed none
+-- what a step is fed: a mailbox, an image, its used length; [] and 0 if it is fed none
 abbrev pub mailboxOf : Step → List ℕ
 mailboxOf (take p m) = m
 mailboxOf (serve s) = []
@@ -158,7 +158,7 @@ imageOf (owner x) = ([], 0)
 imageOf (save image used) = (image, used)
 imageOf (powerOn image used) = (image, used)
 
--- no sector is counted, and the buffers are as they were
+-- no sector is counted, and the buffers are unchanged
 pub record Untouched (x : Step) (s : Seen) : Type 0 where
   pub count : s .count ≡ 0
   pub mailbox : s .mailbox ≡ mailboxOf x
@@ -178,7 +178,7 @@ unchanged-untouched (powerOn image used) n = record { count = refl; mailbox = re
 pub refused-untouched : (x : Step) (M : Machine) (n : ℕ) → step x M .seen .answer ≡ suc n → (step x M .state ≡ M) × Untouched x (step x M .seen)
 refused-untouched x M n e = rw (step-refused x M n (sym (answer-is x M) ∙ e)) (refl, unchanged-untouched x (suc n))
 
--- only give, work and save are seen in more than their answer
+-- only give, work and save show more than their answer
 abbrev pub Silent : Step → Type 0
 Silent (take p m) = Unit {0}
 Silent (serve s) = Unit {0}
@@ -200,7 +200,7 @@ silent-seen (powerOn image used) M s = refl
 pub silent-untouched : (x : Step) (M : Machine) → Silent x → step x M .seen .answer ≡ 0 → Untouched x (step x M .seen)
 silent-untouched x M s e = rw (step-done x M (sym (answer-is x M) ∙ e), silent-seen x M s) (unchanged-untouched x done)
 
--- ---- a list of steps: each goes on from the state that the last one left
+-- ---- a list of steps: each continues from the state that the previous one left
 
 pub trace-none : {S : Type 0} (f : Step → S → Outcome S) (s : S) → trace f [] s ≡ []
 trace-none f s = refl

@@ -1,4 +1,4 @@
--- A request is the bytes copied at its taking, and what it does depends on them alone.
+-- A request is the bytes that take copied; later changes of the mailboxes do not change what it does.
 use mathlib.Core.Path.{_≡_, refl, sym, ap, _∙_}
 use mathlib.Core.Bool.{Bool, true, false}
 use Prim.Native.Nat.{ℕ, zero, suc, _<_}
@@ -15,7 +15,7 @@ use Rattle.model.specs.Valid.{Each}
 use Rattle.model.proofs.StepLaws.{step-done, step-refused, answer-is, answers-numbered, port-other}
 use Rattle.model.proofs.RequestLaws.{Serves, serves}
 
--- a step that does not serve the port p, and is no power-on that is done; f is how a step acts on a state, as in a trace
+-- a step that does not serve port p, and is not a power-on that is done; f is how a step acts on a state, as in a trace
 abbrev pub LeavesRequest : {S : Type 0} → (Step → S → Outcome S) → ℕ → Step → S → Type 0
 LeavesRequest f p (take q m) s = Unit {0}
 LeavesRequest f p (serve x) s = x .port ≡ p → ⊥
@@ -25,7 +25,7 @@ LeavesRequest f p (owner x) s = Unit {0}
 LeavesRequest f p (save image used) s = Unit {0}
 LeavesRequest f p (powerOn image used) s = f (powerOn image used) s .seen .answer ≡ 0 → ⊥
 
--- .. and so every step of a list
+-- .. and the same for every step of a list
 abbrev pub AllLeave : {S : Type 0} → (Step → S → Outcome S) → ℕ → List Step → S → Type 0
 AllLeave f p [] s = Unit {0}
 AllLeave f p (x ∷ xs) s = LeavesRequest f p x s × AllLeave f p xs (f x s .state)
@@ -68,12 +68,12 @@ module _ (p : ℕ) (m : List ℕ) (M : Machine) (held : M .ports p ≡ request m
       go zero e = rw (step-done x M e) (does-leaves x l e)
       go (suc n) e = rw (step-refused x M n e) held
 
--- THEOREM: a request in a port is the mailbox at its taking until it is served or power comes on: a power-on that is refused leaves it too.
+-- THEOREM: a request in a port is the mailbox that was taken, until it is served or a power-on is done: a refused power-on does not change it.
 pub requests-stay : (p : ℕ) (m : List ℕ) (xs : List Step) (M : Machine) → M .ports p ≡ request m → AllLeave step p xs M → after xs M .ports p ≡ request m
 requests-stay p m [] M held e = held
 requests-stay p m (x ∷ xs) M held e = requests-stay p m xs (step x M .state) (request-stays p m M held x (e .0)) (e .1)
 
--- So it is served from those bytes, on the device and the disk of that moment, whatever mailboxes the steps between were fed.
+-- So it is served from those bytes, on the device and the disk of that time, whatever mailboxes the steps in between were fed.
 pub served-as-taken : (s : Serving) (m : List ℕ) (xs : List Step) (M : Machine) → s .port < portCount → M .ports (s .port) ≡ request m → AllLeave step (s .port) xs M
     → (c : Decision) → decide s m (after xs M .device) ≡ c
     → Serves s (after xs M) (replyOf c (volumeAfter c (after xs M .disk))) (volumeAfter c (after xs M .disk) .device) (volumeAfter c (after xs M .disk) .disk)
@@ -91,7 +91,7 @@ OnOtherPort p (owner x) = ⊥
 OnOtherPort p (save image used) = ⊥
 OnOtherPort p (powerOn image used) = ⊥
 
--- what a serve of the port p sees of a machine
+-- what a serve of port p sees of a machine
 pub record SameAt (p : ℕ) (M N : Machine) : Type 0 where
   pub device : M .device ≡ N .device
   pub disk : M .disk ≡ N .disk
@@ -113,7 +113,7 @@ step-on-other p x M o = go (firstFailed (checks x M)) refl
     go zero e = rw (step-done x M e) (changed x o)
     go (suc n) e = rw (step-refused x M n e) (record { device = refl; disk = refl; port = refl })
 
--- THEOREM: whatever other ports' mailboxes hold when they are taken from and given to, a serve of the port p sees the same.
+-- THEOREM: a serve of port p sees the same, whatever the mailboxes of other ports hold at their takes and gives.
 pub others-unseen : (p : ℕ) (xs : List Step) (M : Machine) → Each (OnOtherPort p) xs → SameAt p (after xs M) M
 others-unseen p [] M e = record { device = refl; disk = refl; port = refl }
 others-unseen p (x ∷ xs) M e =

@@ -28,7 +28,7 @@ leZ-above (pos a) (negsuc b) e = record { le = tt }
 leZ-above (negsuc a) (pos b) e = absurd (let z : _≡_ {A = ℕ} 0 1 = cc in omega arith)
 leZ-above (negsuc a) (negsuc b) e = let h = leb-false b a e in record { le = le→leb a b (omega arith) }
 
--- Of two real readings the new maximum is one, and by signed value neither is above it.
+-- The new maximum of two real readings is one of them, and neither has a higher signed value.
 pub record Greater (sample old new : ℕ) : Type 0 where
   pub isOne : (new ≡ sample) ⊎ (new ≡ old)
   pub aboveSample : signed sample ≤ℤ signed new
@@ -56,7 +56,7 @@ first-sample sample = go (eqb sample missing) refl
     go true e = sym (eqb-true sample missing e)
     go false e = refl
 
--- two's complement: 0 to 127 are themselves, and 80h + n is -128 + n
+-- two's complement: 0 to 127 mean themselves, and 80h + n means -128 + n
 pub signed-positive : (b : ℕ) → b < 128 → signed b ≡ pos b
 signed-positive b h = rw (lt-ltb b 128 h)
 
@@ -98,7 +98,7 @@ pub sample-now : (interval sample : ℕ) (t : Thermal) → sampled interval samp
 unfolding sampled
 sample-now interval sample t = refl
 
--- both maxima take the sample alike
+-- both maxima take the sample in the same way
 pub sample-maxima : (interval sample : ℕ) (t : Thermal)
     → (sampled interval sample t .cycleMaximum ≡ newMaximum sample (t .cycleMaximum))
     × (sampled interval sample t .lifeMaximum ≡ newMaximum sample (t .lifeMaximum))
@@ -138,7 +138,7 @@ module _ (reading : ℕ) (M : Machine) where
   unfolding step sampleDevice
   step-logs e = sample-logs (M .device .settings .logInterval .state) reading before (omega arith)
 
--- a sample leaves all but the temperatures
+-- a sample changes only the temperatures
 pub record SampleKeeps (M N : Machine) : Type 0 where
   pub sizes : (N .device .native ≡ M .device .native) × (N .device .visible ≡ M .device .visible)
   pub lockAndFlag : (N .device .locked ≡ M .device .locked) × (N .device .initialized ≡ M .device .initialized)

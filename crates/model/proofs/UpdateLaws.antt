@@ -1,4 +1,4 @@
--- The device with one part changed: that part is the new one, and every other stays.
+-- The device with one part changed: that part has its new value, and every other part is unchanged.
 use mathlib.Core.Path.{_≡_, refl}
 use mathlib.Core.Bool.{Bool}
 use Prim.Native.Nat.{ℕ}

@@ -1,4 +1,4 @@
--- A valid device is one that meets document 01's clauses, in its words and numbers ("A record is sound when"), both ways.
+-- A device is valid exactly if it meets document 01's clauses, in its words and numbers ("A record is sound when").
 use mathlib.Core.Path.{_≡_, refl}
 use mathlib.Core.Logic.{_⊎_}
 use Prim.Native.Nat.{ℕ, zero, suc, _^_, _≤_, _<_}
@@ -83,9 +83,9 @@ valid-clauses d v =
       history = t .whole;
     }
 
--- ---- and back
+-- ---- the converse
 
--- What `Valid` says beside those clauses: the places and widths of the values, and that one transfer is pending at most
+-- What `Valid` states in addition to those clauses: the places and widths of the values, and that at most one transfer is pending
 -- (document 01 speaks of one owed transfer).
 pub record Stored (d : Device) : Type 0 where
   pub onlyOne : pendingCount (d .command .pending) ≤ 1

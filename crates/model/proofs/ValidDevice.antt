@@ -1,4 +1,4 @@
--- Every change of the device keeps document 01's ranges.
+-- Every change of the device keeps its values in document 01's ranges.
 use mathlib.Core.Path.{_≡_, refl, sym, ap, _∙_, subst}
 use mathlib.Core.Bool.{Bool, true, false}
 use mathlib.Core.Logic.{_⊎_, inl, inr}
@@ -26,7 +26,7 @@ use Rattle.model.proofs.TemperatureLaws.{index-small}
 use Rattle.model.proofs.OwnerLaws.{Quiet, interrupt-quiet}
 use Rattle.model.proofs.RequestLaws.{interrupt-kept}
 
--- ---- parts of the device that no range speaks of
+-- ---- parts of the device that have no range
 
 pub initialized-valid : (b : Bool) (d : Device) → Valid d → Valid (withInitialized b d)
 initialized-valid b d v =
@@ -41,7 +41,7 @@ locked-valid b d v =
 pub command-valid : (c : Command) (d : Device) → Valid d → CommandValid (d .visible) c → Valid (withCommand c d)
 command-valid c d v k = record { sizes = v .sizes; commandValid = k; settingsValid = v .settingsValid; thermalValid = v .thermalValid }
 
--- after an interrupt the command fits any visible size
+-- after an interrupt the command is valid for any visible size
 pub interrupt-command : (visible other : ℕ) (d : Device) → CommandValid visible (d .command) → CommandValid other (interrupt d .command)
 unfolding interrupt
 interrupt-command visible other d v = go (d .command .fill) refl
@@ -70,7 +70,7 @@ pub interrupt-valid : (d : Device) → Valid d → Valid (interrupt d)
 interrupt-valid d v =
     rw (interrupt-kept d) (command-valid (interrupt d .command) d v (interrupt-command (d .visible) (d .visible) d (v .commandValid)))
 
--- a code other than FFFFh, where no fill runs
+-- a code other than FFFFh, when no fill runs
 pub code-valid : (n : ℕ) (d : Device) → Valid d → d .command .fill ≡ idle → n < runningCode → Valid (withCode n d)
 code-valid n d v e h =
     let c = v .commandValid in
@@ -112,7 +112,7 @@ start-valid first end d v q h k =
       words = (omega arith, c .words .1, c .words .2);
     })
 
--- a sector further
+-- one sector further
 pub advanced-valid : (first next end : ℕ) (d : Device) → Valid d → d .command .fill ≡ running first next end → Valid (advanced first (suc next) end d)
 advanced-valid first next end d v e = go (eqb (suc next) end) refl (subst (FillValid (d .visible)) e (c .fillValid)) (subst (λ (f : Fill). pendingCount (d .command .pending) ≤ pendingLimit f) e (c .onlyOne))
   where
@@ -155,7 +155,7 @@ count-none : (n : ℕ) → pendingCount (replicate n none) ≡ 0
 count-none zero = refl
 count-none (suc n) = count-none n
 
--- one transfer among nothing
+-- with one transfer set and no other, at most one is pending
 count-set : (n p : ℕ) (t : Transfer) → pendingCount (set (replicate n none) p t) ≤ 1
 count-set zero p t = omega arith
 count-set (suc n) zero none = omega (arith, count-none n)
@@ -207,7 +207,7 @@ timer-set write n d v k h =
     })
     (v .thermalValid)
 
--- an emptied history suits any interval
+-- an emptied history is valid for any interval
 emptied-valid : (interval other : ℕ) (t : Thermal) → 1 ≤ other → ThermalValid interval t → ThermalValid other (historyEmptied t)
 unfolding historyEmptied
 emptied-valid interval other t h v =

@@ -1,4 +1,4 @@
--- What a request decides keeps document 01's ranges: the device, the effect and the reply's registers.
+-- What a request decides is in document 01's ranges: the device, the effect and the reply's registers.
 use mathlib.Core.Path.{_≡_, refl, ap, _∙_}
 use mathlib.Core.Bool.{Bool, true, false}
 use mathlib.Core.Logic.{_⊎_, inl, inr}
@@ -26,7 +26,7 @@ use Rattle.model.proofs.RequestLaws.{interrupt-kept}
 use Rattle.model.proofs.OwnerLaws.{Quiet, interrupt-quiet}
 use Rattle.model.proofs.ValidDevice.{interrupt-valid, code-valid, key-valid, pending-valid, timer-set, feature-set}
 
--- what an effect's values have to meet on the device that was decided
+-- what an effect's values must satisfy on the decided device
 abbrev pub WritingValid : Device → Writing → Type 0
 WritingValid d noWrite = Unit {0}
 WritingValid d (oneSector lba sector) = (lba < d .visible) × Sized sectorSize sector
@@ -41,7 +41,7 @@ SendingValid visible (diskSector lba) = lba < visible
 abbrev pub EffectValid : Device → Effect → Type 0
 EffectValid d e = WritingValid d (e .writes) × SendingValid (d .visible) (e .sends)
 
--- A decision on the device d: in range; N and V stay; the fill is the one there was, or none.
+-- A decision on the device d: in range; N and V are unchanged; the fill is the previous one, or none.
 pub record DecisionValid (d : Device) (c : Decision) : Type 0 where
   pub deviceValid : Valid (c .device)
   pub effectValid : EffectValid (c .device) (c .effect)
@@ -71,7 +71,7 @@ state-fits logInterval s v = omega (arith, v .intervalValid .1)
 
 -- ---- after an interrupt
 
--- N, V and the settings are those before
+-- N, V and the settings are unchanged
 sizes-kept : (d : Device) → (interrupt d .native ≡ d .native) × (interrupt d .visible ≡ d .visible)
 sizes-kept d = (ap (λ (e : Device). e .native) (interrupt-kept d), ap (λ (e : Device). e .visible) (interrupt-kept d))
 
@@ -89,7 +89,7 @@ coded-valid d n r e v h f k =
 
 -- ---- a key
 
--- a decision with no effect, which leaves N, V and the fill
+-- a decision with no effect, which does not change N, V and the fill
 still : (d e : Device) (r : Registers) → Valid e → RegistersFit r → (e .native ≡ d .native) × (e .visible ≡ d .visible)
     → e .command .fill ≡ d .command .fill → DecisionValid d (decision e r nothing)
 still d e r v f sizes fill = record { deviceValid = v; effectValid = (tt, tt); fits = f; sameSizes = sizes; sameFill = inr fill }
@@ -148,7 +148,7 @@ module _ (d : Device) (p : ℕ) (v : Valid d) (q : Quiet d) where
 
 -- ---- a transfer
 
--- a transfer that may move is in range
+-- the transfer that a port has pending is in range
 pending-for : (visible : ℕ) (ts : List Transfer) (p : ℕ) → PendingValid visible ts → TransferValid visible (getD ts p none)
 pending-for visible [] zero v = tt
 pending-for visible [] (suc p) v = tt
@@ -210,9 +210,9 @@ module _ (d : Device) (v : Valid d) (sector : List ℕ) (whole : Sized sectorSiz
             sameFill = inl (interrupt-quiet d .noFill);
           }
 
--- ---- who owns a pending transfer
+-- ---- which port a pending transfer belongs to
 
--- a place whose transfer is pending counts
+-- a place with a pending transfer is counted
 counted : (ts : List Transfer) (q : ℕ) → (getD ts q none ≡ none → ⊥) → 1 ≤ pendingCount ts
 counted [] zero ne = absurd (ne refl)
 counted [] (suc q) ne = absurd (ne refl)
@@ -223,7 +223,7 @@ counted (none ∷ ts) (suc q) ne = counted ts q ne
 counted (table ∷ ts) (suc q) ne = omega arith
 counted (fillData first end ∷ ts) (suc q) ne = omega arith
 
--- where nothing is pending, no port has a transfer
+-- if nothing is pending, no port has a transfer
 empty-rest : (ts : List Transfer) (p : ℕ) → pendingCount ts ≤ 0 → getD ts p none ≡ none
 empty-rest [] zero h = refl
 empty-rest [] (suc p) h = refl
@@ -234,7 +234,7 @@ empty-rest (table ∷ ts) (suc p) h = absurd (omega arith)
 empty-rest (fillData first end ∷ ts) zero h = absurd (omega arith)
 empty-rest (fillData first end ∷ ts) (suc p) h = absurd (omega arith)
 
--- where at most one is pending, every other port has none
+-- if at most one is pending, every other port has none
 alone : (ts : List Transfer) (p q : ℕ) → pendingCount ts ≤ 1 → (q ≡ p → ⊥) → (getD ts q none ≡ none → ⊥) → getD ts p none ≡ none
 alone [] zero q one ne some = refl
 alone [] (suc p) q one ne some = refl
@@ -253,7 +253,7 @@ limit-one : (f : Fill) → pendingLimit f ≤ 1
 limit-one idle = omega arith
 limit-one (running first next end) = omega arith
 
--- "another port collecting an owed sector": where port q has a transfer pending, port p has none
+-- "another port collecting an owed sector": if port q has a transfer pending, port p has none
 pub not-owner : (d : Device) → Valid d → (p q : ℕ) → (q ≡ p → ⊥) → (getD (d .command .pending) q none ≡ none → ⊥) → getD (d .command .pending) p none ≡ none
 not-owner d v p q = alone (d .command .pending) p q (omega (arith, v .commandValid .onlyOne, limit-one (d .command .fill)))
 

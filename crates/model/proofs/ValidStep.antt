@@ -1,4 +1,4 @@
--- Every step keeps document 01's ranges.
+-- Every step keeps the machine's values in document 01's ranges.
 use mathlib.Core.Path.{_≡_, refl, sym, ap, _∙_, subst}
 use mathlib.Core.Bool.{Bool, true, false, _||_}
 use mathlib.Core.Logic.{_⊎_, inl, inr}
@@ -63,14 +63,14 @@ written-valid (oneSector lba sector) v ok k = write-valid lba sector v ok (k .1)
 written-valid (newFill first end sector) v ok k =
     record { deviceValid = start-valid first end (v .device) (ok .deviceValid) (k .3) (k .0) (k .1); diskValid = ok .diskValid }
 
--- what is written leaves N and V
+-- a write does not change N and V
 pub written-sizes : (w : Writing) (v : Volume) → (written w v .device .native ≡ v .device .native) × (written w v .device .visible ≡ v .device .visible)
 unfolding writeSector
 written-sizes noWrite v = (refl, refl)
 written-sizes (oneSector lba sector) v = (refl, refl)
 written-sizes (newFill first end sector) v = (refl, refl)
 
--- what a reply carries are bytes that fit a mailbox
+-- the data of a reply is bytes, and fits a mailbox
 abbrev SentValid : List ℕ → Type 0
 SentValid l = (length l ≤ dataSize) × Bytes l
 
@@ -115,7 +115,7 @@ sector-after noWrite v s k h = h
 sector-after (oneSector lba sector) v s k h = h
 sector-after (newFill first end sector) v s k h = k .2
 
--- the fill that was decided is the one there was, or none
+-- the decided fill is the previous one, or none
 sector-decided : (f g : Fill) (s : List ℕ) → (f ≡ idle) ⊎ (f ≡ g) → Suits g s → Suits f s
 sector-decided f g s (inl e) v = subst (λ (x : Fill). Suits x s) (sym e) tt
 sector-decided f g s (inr e) v = subst (λ (x : Fill). Suits x s) (sym e) v
@@ -140,7 +140,7 @@ module _ (p : ℕ) (c : Decision) (M : Machine) (ok : MachineValid M) (k : Decis
   after-valid =
       written-valid (c .effect .writes) decided (record { deviceValid = k .deviceValid; diskValid = rw (k .sameSizes .0) (ok .diskValid) }) (k .effectValid .0)
 
-  -- the reply fills a mailbox
+  -- the reply has the size of a mailbox
   pub reply-valid : Sized mailboxSize (replyOf c after)
   reply-valid =
       let x = c .effect .sends in
@@ -162,12 +162,12 @@ module _ (p : ℕ) (c : Decision) (M : Machine) (ok : MachineValid M) (k : Decis
 
 -- ---- work
 
--- the fill's sector suits the fill
+-- the fill's sector is valid for the fill
 pub record FillingValid (sector : List ℕ) (v : Volume) : Type 0 where
   pub volumeValid : VolumeValid v
   pub sectorValid : Suits (v .device .command .fill) sector
 
--- what holds of a fill that ended and of one that goes on holds after a sector
+-- a property of a fill that has ended, and of one that continues, holds after one sector
 advanced-cases : (P : Device → Type 0) (first next end : ℕ) (d : Device)
     → P (withInitialized (wholeDisk first end (d .visible)) (withFill idle 0x0000 d)) → P (withFill (running first next end) runningCode d)
     → P (advanced first next end d)
@@ -271,7 +271,7 @@ sample-valid reading M ok h =
 
 -- ---- power-on
 
--- what power-on starts from is in range
+-- the device after a power-on is in range
 pub restored-valid : (native : ℕ) (image : List ℕ) (used : ℕ) → 1 ≤ native → native ≤ nativeLimit → Bytes image → readable image used ≡ true
     → Valid (powerOnDevice (restored native image used))
 unfolding restored
@@ -282,7 +282,7 @@ restored-valid native image used some most b r = go (eqb used 0) refl
     go false e =
         power-on-valid (newest image used) (newest-fits image used b r (eqb-false used 0 e)) (newest-ranged image used b r (eqb-false used 0 e))
 
--- .. of this disk
+-- .. and has this disk's N
 pub restored-native : (native : ℕ) (image : List ℕ) (used : ℕ) → sameDisk native image used ≡ true → powerOnDevice (restored native image used) .native ≡ native
 unfolding restored powerOnDevice
 restored-native native image used h = go (eqb used 0) h
@@ -312,7 +312,7 @@ power-on-machine disk image used db ib e =
 
 -- ---- any step
 
--- a port that a serve finds in its stage holds a request
+-- a port in the stage that serve needs holds a request
 pub request-held : (x : Port) → isRequest x ≡ true → PortValid x → Sized mailboxSize (heldBytes x)
 request-held empty e v = absurd (let z : _≡_ {A = ℕ} 0 1 = cc in omega arith)
 request-held (request m) e v = v

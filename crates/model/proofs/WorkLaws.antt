@@ -1,4 +1,4 @@
--- Laws of the fill and the work step, in document 01's words: which places are written, how far it moves, what is counted.
+-- Laws of the fill and the work step, in document 01's words: which places are written, how far the fill moves, what is counted.
 use mathlib.Core.Path.{_≡_, refl, sym, ap, ap₂, _∙_}
 use mathlib.Core.Bool.{Bool, true, false, _&&_, and-false}
 use Prim.Native.Nat.{ℕ, zero, suc, _+_, _-_, _*_, _≤_, _<_, min}
@@ -23,16 +23,16 @@ use Rattle.model.specs.Fill.{work as workVolume}
 use Rattle.model.specs.Machine.{Machine, whileRunning}
 use Rattle.model.specs.Step.{work, Outcome, step, volume, worked}
 
--- a volume of v, its fill moved to a place, with these bytes from the fill's sector next on
+-- the volume v with its fill moved to a place, and with these bytes stored from sector next on
 moved : ℕ → ℕ → ℕ → Volume → ℕ → List ℕ → Volume
 moved first next end v place bytes =
     record { device = advanced first place end (withInitialized false (v .device)); disk = record { sectors = sets (v .disk .sectors) (sectorSize * next) bytes } }
 
--- while sectors are left, the fill runs on
+-- while sectors are left, the fill continues
 advanced-runs : (first next end : ℕ) (d : Device) → next < end → advanced first next end d ≡ withFill (running first next end) runningCode d
 advanced-runs first next end d h = rw (ne-eqb next end (λ e. omega arith))
 
--- a device that has moved to next moves on from there
+-- a fill that has moved to next continues from there
 advanced-again : (first next end : ℕ) (d : Device)
     → advanced first (suc next) end (withInitialized false (withFill (running first next end) runningCode (withInitialized false d)))
     ≡ advanced first (suc next) end (withInitialized false d)
@@ -48,7 +48,7 @@ advanced-again first next end d = go (eqb (suc next) end)
     go true = refl
     go false = refl
 
--- one sector more on the disk
+-- one more sector on the disk
 disk-again : (disk sector : List ℕ) (next k : ℕ) → length sector ≡ sectorSize
     → sets (sets disk (sectorSize * next) (repeated k sector)) (sectorSize * (next + k)) sector ≡ sets disk (sectorSize * next) (repeated (suc k) sector)
 disk-again disk sector next k h =
@@ -60,12 +60,12 @@ disk-again disk sector next k h =
     place = rw (length-repeated k sector, h) (omega arith)
 
 module _ (first next end : ℕ) (sector : List ℕ) (v : Volume) (runs : v .device .command .fill ≡ running first next end) (whole : length sector ≡ sectorSize) where
-  -- one sector, from the start
+  -- the first sector
   first-sector : sectorStep sector v ≡ moved first next end v (next + 1) (repeated 1 sector)
   unfolding sectorStep writeSector repeated moved
   first-sector = ap (λ (f : Fill). fillStep f sector v) runs ∙ ap₂ (moved first next end v) (omega arith) (sym (append-nil sector))
 
-  -- one sector, from where the fill still runs
+  -- one more sector, while the fill still runs
   next-sector : (k : ℕ) → next + k < end → sectorStep sector (moved first next end v (next + k) (repeated k sector)) ≡ moved first next end v (next + suc k) (repeated (suc k) sector)
   unfolding sectorStep writeSector moved
   next-sector k h =
@@ -77,7 +77,7 @@ module _ (first next end : ℕ) (sector : List ℕ) (v : Volume) (runs : v .devi
   stepped-more zero h = first-sector
   stepped-more (suc k) h = ap (sectorStep sector) (stepped-more k (omega arith)) ∙ next-sector (suc k) (omega arith)
 
-  -- k steps in all, from none on
+  -- k steps in all, for any k above 0
   stepped : (k : ℕ) → 0 < k → next + k ≤ end → iterate k (sectorStep sector) v ≡ moved first next end v (next + k) (repeated k sector)
   stepped zero p h = absurd (omega arith)
   stepped (suc k) p h = stepped-more k h
@@ -93,18 +93,18 @@ module _ (first next end : ℕ) (sector : List ℕ) (v : Volume) (runs : v .devi
 
 -- ---- the work step
 
--- how far a fill has come: to next, or to its end where it is over
+-- how far a fill has got: to next, or to its end if it is over
 abbrev pub position : ℕ → Fill → ℕ
 position end idle = end
 position end (running first next e) = next
 
--- a budget or a fill that allows no sector leaves everything as it is
+-- a budget or a fill that allows no sector leaves everything unchanged
 work-still : (n : ℕ) (M : Machine) → workCount n (M .device .command .fill) ≡ 0
     → (step (work n) M .seen .count ≡ 0) × (step (work n) M .state .device ≡ M .device) × (step (work n) M .state .disk ≡ M .disk)
 unfolding step worked workVolume
 work-still n M e = rw e (refl, refl, refl)
 
--- the ports stay
+-- the ports are unchanged
 pub work-ports : (n : ℕ) (M : Machine) → step (work n) M .state .ports ≡ M .ports
 unfolding step worked
 work-ports n M = refl
@@ -146,7 +146,7 @@ module _ (n : ℕ) (M : Machine) (first next end : ℕ) (runs : M .device .comma
   unfolding workCount
   counted = rw runs
 
-  -- "writes the fill's sector to the k places from next on"; all else stays
+  -- "writes the fill's sector to the k places from next on"; everything else is unchanged
   pub work-disk : after .state .disk .sectors ≡ sets (M .disk .sectors) (sectorSize * next) (repeated k (M .sector))
   unfolding step worked workVolume
   work-disk = ap (λ (j : ℕ). iterate j (sectorStep (M .sector)) (volume M) .disk .sectors) counted ∙ steps-disk first next end (M .sector) (volume M) runs whole k (omega arith)
@@ -155,7 +155,7 @@ module _ (n : ℕ) (M : Machine) (first next end : ℕ) (runs : M .device .comma
   pub work-places : (j : ℕ) → j < k → sectorSize * end ≤ length (M .disk .sectors) → part (after .state .disk .sectors) (sectorSize * (next + j)) sectorSize ≡ M .sector
   work-places j h fits = rw work-disk (place-holds (M .disk .sectors) (M .sector) next k j whole h (omega arith))
 
-  -- every other byte stays
+  -- every other byte is unchanged
   pub work-keeps-below : (i : ℕ) → i < sectorSize * next → getD (after .state .disk .sectors) i 0 ≡ getD (M .disk .sectors) i 0
   work-keeps-below i h = rw work-disk (getD-sets-before (repeated k (M .sector)) (M .disk .sectors) (sectorSize * next) i h)
 
@@ -174,7 +174,7 @@ module _ (n : ℕ) (M : Machine) (first next end : ℕ) (runs : M .device .comma
   pub work-moves : 0 < k → next + k < end → after .state .device ≡ withFill (running first (next + k) end) runningCode (withInitialized false (M .device))
   work-moves p h = device-after p ∙ advanced-runs first (next + k) end (withInitialized false (M .device)) h
 
-  -- a fill that runs on keeps its sector
+  -- a fill that still runs keeps its sector
   pub work-sector : 0 < k → next + k < end → after .state .sector ≡ M .sector
   unfolding step worked
   work-sector p h = ap (λ (d : Device). whileRunning (d .command .fill) (M .sector)) (work-moves p h)

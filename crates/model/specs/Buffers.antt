@@ -1,4 +1,4 @@
--- Runs of bytes, by what they hold.
+-- Names for runs of bytes, by what they hold.
 use Prim.Native.Nat.{ℕ}
 use mathlib.Core.List.{List}
 
@@ -6,7 +6,7 @@ use mathlib.Core.List.{List}
 abbrev pub Mailbox : Type 0
 Mailbox = List ℕ
 
--- a sector, or what stands in one: a key, the status, the temperature table
+-- a sector, or what it holds: a key, the status, the temperature table
 abbrev pub Sector : Type 0
 Sector = List ℕ
 

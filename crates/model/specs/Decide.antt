@@ -1,4 +1,4 @@
--- What a request does: the new device, the reply's registers, and an effect. Nothing here sees the disk.
+-- What a request does: the new device, the reply's registers, and an effect. Nothing here reads the disk.
 use mathlib.Core.Bool.{Bool, true, false, not}
 use Prim.Native.Nat.{ℕ}
 use mathlib.Core.List.{List, [], _∷_}
@@ -13,7 +13,7 @@ use Rattle.model.specs.Temperature.{historyEmptied}
 use Rattle.model.specs.Fill.{interrupt}
 use Rattle.model.specs.Buffers.{Mailbox, Sector}
 
--- What a serve is fed: a record, since W-211 adds a field.
+-- What a serve is fed. It is a record, because W-211 adds a field.
 pub record Serving : Type 0 where
   pub port : ℕ
 
@@ -104,7 +104,7 @@ carryOut (returnState f) p d = decision d (good (feature f (d .settings) .state)
 carryOut (returnOption f) p d = decision d (good (bit (feature f (d .settings) .persistent)) 0) nothing
 carryOut sendTable p d = decision (withPending (set (d .command .pending) p table) d) (good 0 1) nothing
 
--- "A refused key stores its code. An accepted key stores 0000h, a pattern fill FFFFh" (where it begins: Perform.antt).
+-- "A refused key stores its code. An accepted key stores 0000h, a pattern fill FFFFh" (stored when it begins: Perform.antt).
 abbrev pub decideVerdict : Verdict → ℕ → Device → Decision
 decideVerdict (accepted a) p d = carryOut a p (withCode 0x0000 d)
 decideVerdict (rejected code) p d = decision (withCode code d) (refusedWith code) nothing
@@ -115,7 +115,7 @@ decideKey p k d = decideVerdict (judgeKey d k) p (withKey (word k 0) (word k 1) 
 
 -- ---- data
 
--- A transfer's direction. The table is read, a fill's sector written.
+-- A transfer's direction. The table is read, a fill's sector is written.
 abbrev pub moves : Direction → Transfer → Bool
 moves d none = false
 moves read table = true
@@ -123,7 +123,7 @@ moves write table = false
 moves read (fillData first end) = false
 moves write (fillData first end) = true
 
--- how many sectors a transfer moves: "count not 1". By kind, since W-202 adds transfers of two.
+-- how many sectors a transfer moves: "count not 1". It depends on the kind, because W-202 adds transfers of two sectors.
 abbrev pub sectorsOf : Transfer → ℕ
 sectorsOf none = 0
 sectorsOf table = 1

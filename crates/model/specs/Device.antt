@@ -1,10 +1,10 @@
--- The device: what the model machine holds beside the disk and the ports.
+-- The device: what the model machine holds in addition to the disk and the ports.
 use mathlib.Core.Bool.{Bool}
 use Prim.Native.Nat.{ℕ}
 use mathlib.Core.List.{List}
 
--- A fill: none, or one that runs, with its first sector, the next to write, and the end (the first behind it).
--- 01 counts the sector to write among a fill's parts: the machine holds it beside the device (Machine.antt).
+-- A fill: none, or one that runs, with its first sector, the next to write, and the end (the first sector after it).
+-- 01 lists the sector to write among a fill's parts: here the machine holds it, outside the device (Machine.antt).
 pub data Fill : Type 0 where
   idle : Fill
   running : ℕ → ℕ → ℕ → Fill

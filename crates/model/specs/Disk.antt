@@ -1,4 +1,4 @@
--- The disk: its sectors, one of them read or written, and the part that is hidden.
+-- The disk: its sectors, how one of them is read or written, and the part that is hidden.
 use Prim.Native.Nat.{ℕ, _*_}
 use mathlib.Core.List.{List}
 use lib.ListN.{drop}
@@ -15,7 +15,7 @@ pub record Disk : Type 0 where
 abbrev pub sectorAt : ℕ → Disk → Sector
 sectorAt lba disk = part (disk .sectors) (sectorSize * lba) sectorSize
 
--- the disk with another content of one sector
+-- the disk with new content in one sector
 abbrev pub withSector : ℕ → Sector → Disk → Disk
 withSector lba sector disk = record { sectors = sets (disk .sectors) (sectorSize * lba) sector }
 

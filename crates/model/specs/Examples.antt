@@ -13,7 +13,7 @@ use Rattle.model.specs.Owner.{sample}
 use Rattle.model.specs.Image.{powerOn, blank}
 use Rattle.model.specs.Buffers.{Mailbox}
 
--- a key sector with these words; B0h, D6h, E0h, count 1 before it
+-- a key sector with these words, after registers with B0h, D6h, E0h and count 1
 abbrev pub keyMailbox : List Field → Mailbox
 keyMailbox fields =
     form registersSize ((0, 1, 0xD6) ∷ (2, 1, 1) ∷ (4, 1, 0xE0) ∷ (6, 1, 0x4F) ∷ (8, 1, 0xC2) ∷ (11, 1, 0xB0) ∷ [])
@@ -54,7 +54,7 @@ evaluate (key fields) = numbers (decide (record { port = 0 }) (keyMailbox fields
 evaluate (maximum old reading) = sample reading (withMaximum old) .thermal .lifeMaximum ∷ []
 evaluate (left count n) = workCount n (running 0 (64 - count) 64) ∷ []
 
--- an example, and what 01 says of it
+-- an example, and the outcome that 01 states for it
 abbrev pub starred : List (Example × List ℕ)
 starred =
     -- "Start 63, Count 0 accepted." "Start 64, Count 0: 0002h."

@@ -1,4 +1,4 @@
--- The fill: how it starts, moves on by one sector, is worked off under a budget, and is stopped; the ordinary write of a sector.
+-- The fill: how it starts, advances by one sector, advances under a budget, and is stopped; the ordinary write of a sector.
 use mathlib.Core.Bool.{Bool, false, _&&_}
 use Prim.Native.Nat.{ℕ, zero, suc, _-_}
 use Prim.Native.Nat.{min}
@@ -50,7 +50,7 @@ writeSector lba sector v = record { device = withInitialized false (v .device); 
 abbrev pub wholeDisk : ℕ → ℕ → ℕ → Bool
 wholeDisk first end visible = eqb first 0 && eqb end visible
 
--- The fill after a sector, with next the sector behind it: "at end the fill is over".
+-- The fill after a sector; next is the sector after that one: "at end the fill is over".
 abbrev pub advanced : ℕ → ℕ → ℕ → Device → Device
 advanced first next end d =
     if eqb next end

@@ -101,7 +101,7 @@ bodyBytes s = form headSize (headFields s) ++ tableBytes (s .logInterval .state)
 abbrev pub hasBit : ℕ → ℕ → Bool
 hasBit weight byte = eqb (byte / weight % 2) 1
 
--- what the fields of a body say that stands at a place of a run
+-- the values that the fields of a body decode to, for a body at a place of a run
 unfoldable pub savedAt : List ℕ → ℕ → Saved
 savedAt run at =
     let options = get 1 run (at + optionsPlace) in
@@ -128,7 +128,7 @@ inRange s =
     && statesNamed (s .writeCache .state) (s .reordering .state) (s .logInterval .state)
     && ltb (s .index) historySize
 
--- A body holds where it is, byte for byte, the body of values in range: so "zeros zero, table interval equal to feature 3".
+-- A body holds if it is, byte for byte, the body of values in range: so "zeros zero, table interval equal to feature 3".
 unfoldable pub bodyHolds : List ℕ → Bool
 bodyHolds b = same (bodyBytes (savedIn b)) b && inRange (savedIn b)
 
@@ -180,7 +180,7 @@ entryHolds latest image k =
 
 -- ---- an image
 
--- f holds of 1, 2, .., n
+-- f holds for 1, 2, .., n
 abbrev pub every : ℕ → (ℕ → Bool) → Bool
 every zero f = true
 every (suc k) f = f (suc k) && every k f
@@ -199,7 +199,7 @@ readable image used =
     && leb used (entrySize * entryLimit)
     && every (entries used) (entryHolds (newest image used) image)
 
--- "Reading starts at the last trailer and follows the chain back": n entries, the last trailer at a place. It says the same as
+-- "Reading starts at the last trailer and follows the chain back": n entries, the last trailer at a place. It is equivalent to
 -- "every entry" above (proofs/ImageLaws.antt, chain-every).
 unfoldable pub chainHolds : Saved → Image → ℕ → ℕ → Bool
 chainHolds latest image zero at = eqb at noTrailer
@@ -211,7 +211,7 @@ abbrev pub sameDisk : ℕ → Image → ℕ → Bool
 sameDisk native image used = eqb used 0 || eqb (newest image used .native) native
 
 -- "an image's used length exceeds its buffer" (2); "image not readable by the rules below" (6); "newest entry's N is not this disk's" (7):
--- what a save and a power-on ask of an image
+-- what a save and a power-on require of an image
 abbrev pub imageChecks : ℕ → Image → ℕ → List Check
 imageChecks native image used =
     (leb used (length image), badLength) ∷ (readable image used, badImage) ∷ (sameDisk native image used, otherDisk) ∷ []
@@ -260,7 +260,7 @@ blank native =
 abbrev pub kept : Feature → Feature
 kept f = record { state = if f .persistent then f .state else 1; persistent = f .persistent }
 
--- the settings at power-on, of the two timers and of the three features as they were saved
+-- the settings at power-on, from the two timers and the three features as they were saved
 abbrev pub settingsOf : ℕ → ℕ → Feature → Feature → Feature → Settings
 settingsOf forRead forWrite cache reordering interval =
     record {

@@ -1,4 +1,4 @@
--- The key sector: its checks in the paper's order, and what an accepted key asks.
+-- The key sector: its checks in the paper's order, and what an accepted key asks for.
 use mathlib.Core.Bool.{Bool, true, false, not, _&&_, _||_}
 use Prim.Native.Nat.{ℕ, zero, suc, _+_, _-_, _*_}
 use mathlib.Core.List.{List, [], _∷_}
@@ -25,7 +25,7 @@ count k = get 8 k 12
 abbrev pub lastLba : ℕ → ℕ
 lastLba visible = visible - 1
 
--- ---- the checks: a row is what must hold, and the code given where it does not
+-- ---- the checks: a row is what must hold, and the code given if it does not
 
 -- Action 2: "1 pattern, 2 sector; else 0001h"; "Start above last user LBA, or Start + Count above last user LBA: 0002h"
 -- "Start + Count is a whole-number sum; it never wraps."
@@ -68,7 +68,7 @@ featureChecks k =
 abbrev pub tableChecks : Sector → List Check
 tableChecks k = (eqb (word k 1) 1, 0x0001) ∷ (eqb (word k 2) 2, 0x0011) ∷ []
 
--- the further checks of an action
+-- the remaining checks of an action
 abbrev pub actionChecks : ℕ → Sector → List Check
 actionChecks visible k =
     if eqb (word k 0) 2 then fillChecks visible k
@@ -80,14 +80,14 @@ actionChecks visible k =
 unfoldable pub keyChecks : Device → Sector → List Check
 keyChecks d k = (not (d .locked), 0x0012) ∷ (between 2 (word k 0) 5, 0x0010) ∷ actionChecks (d .visible) k
 
--- ---- what an accepted key asks
+-- ---- what an accepted key asks for
 
 pub data FeatureName : Type 0 where
   writeCache : FeatureName
   reordering : FeatureName
   logInterval : FeatureName
 
--- A fill's numbers are its first sector and its end; with a pattern comes the sector to write.
+-- A fill's numbers are its first sector and its end; a pattern fill also has the sector to write.
 pub data Action : Type 0 where
   fillPattern : ℕ → ℕ → Sector → Action
   fillSector : ℕ → ℕ → Action
@@ -133,7 +133,7 @@ actionOf visible k =
     else if eqb (word k 0) 4 then featureAction k
     else sendTable
 
--- A key is accepted with what it asks, or refused with its code.
+-- A key is accepted with what it asks for, or refused with its code.
 pub data Verdict : Type 0 where
   accepted : Action → Verdict
   rejected : ℕ → Verdict

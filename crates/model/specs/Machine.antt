@@ -21,7 +21,7 @@ pub record Machine : Type 0 where
   pub ports : ℕ → Port
   pub disk : Disk
 
--- a fill's sector lasts as long as the fill
+-- a fill's sector is kept as long as the fill runs
 abbrev pub whileRunning : Fill → Sector → Sector
 whileRunning idle sector = []
 whileRunning (running first next end) sector = sector
@@ -29,7 +29,7 @@ whileRunning (running first next end) sector = sector
 abbrev pub machine : Device → Sector → (ℕ → Port) → Disk → Machine
 machine d sector ports disk = record { device = d; sector = whileRunning (d .command .fill) sector; ports = ports; disk = disk }
 
--- the ports with another content of port p
+-- the ports with new content in port p
 abbrev pub withPort : ℕ → Port → (ℕ → Port) → ℕ → Port
 withPort p x ports i = if eqb i p then x else ports i
 

@@ -1,4 +1,4 @@
--- An effect performed: first what is written, then what is sent. This alone, and the fill's sector step, touch the disk.
+-- How an effect is performed: first what is written, then what is sent. Only this and the fill's sector step access the disk.
 use Prim.Native.Nat.{ℕ, suc}
 use mathlib.Core.List.{List, []}
 use Rattle.model.specs.Device.{Device}
@@ -12,7 +12,7 @@ use Rattle.model.specs.Buffers.{Mailbox, Sector}
 
 -- ---- what is written
 
--- device and disk afterwards
+-- the device and the disk afterwards
 abbrev pub written : Writing → Volume → Volume
 written noWrite v = v
 written (oneSector lba sector) v = writeSector lba sector v
@@ -22,14 +22,14 @@ written (newFill first end sector) v = record { device = startFill first end (v 
 abbrev pub volumeAfter : Decision → Disk → Volume
 volumeAfter c disk = written (c .effect .writes) (record { device = c .device; disk = disk })
 
--- the sector of the fill, where one begins; otherwise the one that there was
+-- the fill's sector, if a fill begins; otherwise the previous one
 abbrev pub fillSectorAfter : Writing → Sector → Sector
 fillSectorAfter noWrite old = old
 fillSectorAfter (oneSector lba sector) old = old
 fillSectorAfter (newFill first end sector) old = sector
 
 -- The sectors that are written, at once or by a fill that begins: from the first up to the end. No rule of the base uses it; the laws
--- that no hidden sector is written speak of it, and W-211 judges it.
+-- that no hidden sector is written are about it, and W-211 checks it.
 pub record Span : Type 0 where
   pub first : ℕ
   pub end : ℕ
@@ -45,21 +45,21 @@ spanOf (newFill first end sector) = record { first = first; end = end }
 abbrev pub temperatureTable : Device → Sector
 temperatureTable d = tableBytes (d .settings .logInterval .state) (d .thermal .index) (d .thermal .history)
 
--- the content of the sector that is read; [] where none is
+-- the content of the sector that is read; [] if none is read
 abbrev pub contentRead : Sending → Disk → Sector
 contentRead noData disk = []
 contentRead status disk = []
 contentRead temperatures disk = []
 contentRead (diskSector lba) disk = sectorAt lba disk
 
--- the data of a reply, of the device and of the content read
+-- the data of a reply, from the device and the content read
 abbrev pub sent : Sending → Device → Sector → Sector
 sent noData d content = []
 sent status d content = statusSector d
 sent temperatures d content = temperatureTable d
 sent (diskSector lba) d content = content
 
--- The reply, of registers, effect and the content of the one sector that is read: no rule sees more of the disk.
+-- The reply, from registers, effect and the content of the one sector that is read: no rule reads more of the disk.
 abbrev pub replyWith : Registers → Sending → Device → Sector → Mailbox
 replyWith r x d content = replyBytes r (sent x d content)
 

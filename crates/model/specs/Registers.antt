@@ -1,4 +1,4 @@
--- The registers of a mailbox: which request they are, and the registers of a reply.
+-- The registers of a mailbox: which request they encode, and the registers of a reply.
 use mathlib.Core.Bool.{Bool, _&&_}
 use Prim.Native.Nat.{ℕ, _+_, _*_, _/_, _%_, _^_}
 use mathlib.Core.List.{List, [], _∷_, _++_}
@@ -15,7 +15,7 @@ pub data Direction : Type 0 where
   read : Direction
   write : Direction
 
--- What a request asks: a count is what Sector Count says, an LBA the 48-bit one.
+-- What a request asks for: a count is the value of Sector Count, an LBA is the 48-bit one.
 pub data Request : Type 0 where
   statusRead : Request
   keySector : Request
@@ -52,7 +52,7 @@ commandByte m = getD m 11 0
 unfoldable pub lba48 : Mailbox → ℕ
 lba48 m = get 6 (getD m 4 0 ∷ getD m 6 0 ∷ getD m 8 0 ∷ getD m 5 0 ∷ getD m 7 0 ∷ getD m 9 0 ∷ []) 0
 
--- the sector behind the registers
+-- the sector after the registers
 abbrev pub dataOf : Mailbox → Sector
 dataOf m = part m registersSize sectorSize
 
@@ -96,7 +96,7 @@ requestOf m =
 
 -- ---- replies
 
--- value stands in Sector Count (low) and LBA Low (high), sectors in LBA Mid.
+-- value goes in Sector Count (low) and LBA Low (high), sectors in LBA Mid.
 pub record Registers : Type 0 where
   pub status : ℕ
   pub error : ℕ

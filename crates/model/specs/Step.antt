@@ -1,4 +1,4 @@
--- The steps of the machine: what each is fed, what it is refused for, what it does and what is seen of it; a list of steps.
+-- The steps of the machine: what each is fed, why it is refused, what it does and what is seen of it; lists of steps.
 use mathlib.Core.Bool.{Bool, true, false}
 use Prim.Native.Nat.{ℕ, _+_, _/_}
 use mathlib.Core.List.{List, [], _∷_}
@@ -19,7 +19,7 @@ use Rattle.model.specs.Image.{powerOn as powerOnDevice}
 use Rattle.model.specs.Machine.{Port, empty, request, reply, Machine, machine, withPort, heldBytes}
 use Rattle.model.specs.Buffers.{Image, Mailbox}
 
--- the owner steps that change the device alone
+-- the owner steps that change only the device
 pub data OwnerStep : Type 0 where
   lock : OwnerStep
   unlock : OwnerStep
@@ -94,7 +94,7 @@ answeredMailbox n m = record { answer = n; count = 0; mailbox = m; image = []; u
 abbrev pub answeredImage : ℕ → Image → ℕ → Seen
 answeredImage n image used = record { answer = n; count = 0; mailbox = []; image = image; used = used }
 
--- an answer that leaves the buffers as they were given
+-- an answer that leaves the buffers unchanged
 abbrev pub unchanged : Step → ℕ → Seen
 unchanged (take p m) n = answeredMailbox n m
 unchanged (serve s) n = answerOnly n
@@ -165,7 +165,7 @@ step x M =
     let n = firstFailed (checks x M) in
     attempt n M (unchanged x n) (record { state = does x M; seen = seenDone x M })
 
--- the outcome of every step of a list, each from the state that the last one left
+-- the outcome of every step of a list, each from the state that the previous one left
 abbrev pub trace : {S : Type 0} → (Step → S → Outcome S) → List Step → S → List (Outcome S)
 trace f [] s = []
 trace f (x ∷ xs) s = f x s ∷ trace f xs (f x s .state)

@@ -62,7 +62,7 @@ historyEmptied t =
     }
 
 -- "Table (document 001, Table 19): 0002h; period 1; interval; bytes 6-9 = 3Ch, 46h, 05h, F6h; zeros;
--- size 478 at 30; index at 32; history from 34." What stands before the interval, and bytes 6-9, are a number of four bytes each.
+-- size 478 at 30; index at 32; history from 34." The bytes before the interval, and bytes 6-9, are a number of four bytes each.
 abbrev pub tableVersions : ℕ
 tableVersions = 0x00010002
 

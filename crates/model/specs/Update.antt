@@ -88,7 +88,7 @@ withKey a f d =
     let c = d .command in
     withCommand (record { code = c .code; action = a; function = f; fill = c .fill; pending = c .pending }) d
 
--- a fill starts, moves on or ends, and the code with it
+-- a fill starts, advances or ends, and the code changes with it
 abbrev pub withFill : Fill → ℕ → Device → Device
 withFill f n d =
     let c = d .command in

@@ -35,7 +35,7 @@ pendingCount (none ∷ ts) = pendingCount ts
 pendingCount (table ∷ ts) = 1 + pendingCount ts
 pendingCount (fillData first end ∷ ts) = 1 + pendingCount ts
 
--- "a fill and an owed transfer never coexist", and one transfer is pending at most
+-- "a fill and an owed transfer never coexist", and at most one transfer is pending
 abbrev pub pendingLimit : Fill → ℕ
 pendingLimit idle = 1
 pendingLimit (running first next end) = 0
@@ -116,8 +116,8 @@ OwnerFed unlock = Unit {0}
 OwnerFed (setVisible v) = Unit {0}
 OwnerFed (sample reading) = reading < 256
 
--- What a step is fed are bytes: the mailbox of a take, a reading, the image of a power-on. Of a give's mailbox and a save's image the machine
--- keeps nothing, so nothing is asked of them; ports, counts, V and used lengths are any numbers.
+-- What a step is fed must be bytes: the mailbox of a take, a reading, the image of a power-on. The machine keeps nothing of a give's mailbox
+-- or a save's image, so nothing is required of them; ports, counts, V and used lengths are any numbers.
 abbrev pub Fed : Step → Type 0
 Fed (take p m) = Bytes m
 Fed (serve s) = Unit {0}

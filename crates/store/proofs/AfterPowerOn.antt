@@ -1,4 +1,4 @@
--- What holds of every list of steps after a power-on that answers 0, beside condition 3.
+-- What holds for every list of steps after a power-on that answers 0, in addition to condition 3.
 use mathlib.Core.Path.{_≡_, sym, ap, _∙_}
 use Prim.Native.Nat.{ℕ}
 use mathlib.Core.List.{List, [], _∷_}
@@ -25,12 +25,12 @@ use Rattle.store.proofs.Condition3Holds.{started-valid}
 use Rattle.store.proofs.AnswerLaws.{ListAnswersRight, list-answers, storeAfter, request-kept, step-answer}
 use Rattle.store.proofs.SavedBack.{power-on-saved, saved-read-back}
 
--- the bytes stay valid along a list
+-- the bytes are valid after every step of a list
 pub list-valid : (xs : List Step) (s : Store) → Each Fed xs → StoreValid s → StoreValid (storeAfter xs s)
 list-valid [] s fed v = v
 list-valid (x ∷ xs) s fed v = list-valid xs (onStore x s .state) (fed .1) (follows x s (fed .0) v .valid)
 
--- a request taken from valid bytes stays
+-- a request taken from valid bytes is kept
 taken-kept : (p : ℕ) (m : List ℕ) (xs : List Step) (s : Store) → Bytes m → Each Fed xs → StoreValid s → onStore (take p m) s .seen .answer ≡ 0
     → AllLeave onStore p xs (onStore (take p m) s .state) → machineOf (storeAfter xs (onStore (take p m) s .state)) .ports p ≡ request m
 taken-kept p m xs s b fed v taken leaves =
@@ -40,7 +40,7 @@ taken-kept p m xs s b fed v taken leaves =
     (ap (λ (M : Machine). M .ports p) (f .same) ∙ rw (step-done (take p m) (machineOf s) done) (port-same p (request m) (machineOf s .ports)))
     leaves
 
--- a power-on that reads back what was saved of a device
+-- a power-on that reads back what was saved from a device
 pub record ReadBack (saved : Device) (on : PowerOnAfter) : Type 0 where
   pub answers : on .answer ≡ 0
   pub kept : KeptRules (savedFrom saved) (decode (on .recordArea) .device)
@@ -52,15 +52,15 @@ module _ (r a : List ℕ) (disk : Disk) (image : List ℕ) (used : ℕ) (answers
   start-valid : StoreValid start
   start-valid = started-valid r a disk image used answers diskBytes imageBytes
 
-  -- THEOREM: after a power-on that answers 0, the bytes are valid after every list of steps: the record is sound, and so on.
+  -- THEOREM: after a power-on that answers 0, the bytes are valid after every list of steps: the record is sound, and the rest of `StoreValid`.
   pub valid-after : (xs : List Step) → Each Fed xs → StoreValid (storeAfter xs start)
   valid-after xs fed = list-valid xs start fed start-valid
 
-  -- THEOREM: no step of a list after it answers 4, and 2 only for a mailbox's length or a used length.
+  -- THEOREM: no step of a list after it answers 4, and a step answers 2 only for a mailbox's length or a used length.
   pub answers-after : (xs : List Step) → Each Fed xs → ListAnswersRight xs start
   answers-after xs fed = list-answers xs start fed start-valid
 
-  -- THEOREM: after a take that answers 0 the port's request is the mailbox at that taking, whatever the steps after it, until it is served or a
+  -- THEOREM: after a take that answers 0 the port's request is the mailbox that was taken, whatever steps follow, until it is served or a
   -- power-on is done.
   pub request-as-taken : (before after : List Step) (p : ℕ) (m : List ℕ) → Each Fed before → Each Fed after → Bytes m
       → onStore (take p m) (storeAfter before start) .seen .answer ≡ 0

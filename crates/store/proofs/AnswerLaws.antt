@@ -64,7 +64,7 @@ refused-untouched x s n e = on-refused x s n (sym (entry-answer x s) ∙ e)
 
 -- ---- the answers of a list
 
--- a property of 0 and of every check's number is one of the first number that fails
+-- a property of 0 and of every check's number is a property of the number of the first check that fails
 abbrev EachNumber : (ℕ → Type 0) → List Check → Type 0
 EachNumber P [] = Unit {0}
 EachNumber P (c ∷ cs) = P (c .1) × EachNumber P cs
@@ -77,7 +77,7 @@ first-among P (c ∷ cs) z e = go (c .0) (first-among P cs z (e .1))
     go true rest = rest
     go false rest = e .0
 
--- what a refusal for a length can be, once the areas are right: a mailbox's length, or a used length
+-- why a length can be refused, once the areas have their sizes: a mailbox's length, or a used length
 abbrev pub LengthWrong : Step → Type 0
 LengthWrong (take p m) = length m ≡ mailboxSize → ⊥
 LengthWrong (serve x) = ⊥
@@ -97,7 +97,7 @@ no-four (owner x) M = omega arith
 no-four (save image used) M = omega arith
 no-four (powerOn image used) M = omega arith
 
--- .. and a 2 for a mailbox's length or a used length alone
+-- .. and a 2 only for a mailbox's length or a used length
 behind-length : (b : Bool) (cs : List Check) → EachNumber (λ n. n ≡ 2 → ⊥) cs → (if b then firstFailed cs else 2) ≡ 2 → b ≡ false
 behind-length true cs e h = absurd (first-among (λ n. n ≡ 2 → ⊥) cs (λ z. omega arith) e h)
 behind-length false cs e h = refl
@@ -156,8 +156,8 @@ list-answers (x ∷ xs) s fed v =
 
 -- ---- power-on
 
--- THEOREM: a power-on answers 0 exactly where the paper names no refusal: the record and the private area have their sizes, the disk is
--- 1 to 65,536 whole sectors (512 to 33,554,432 bytes, a multiple of 512), the used length lies in the buffer, the image is readable, and its newest entry is this disk's.
+-- THEOREM: a power-on answers 0 exactly if the paper names no refusal: record and private area have their sizes, the disk is 1 to 65,536 whole
+-- sectors (512 to 33,554,432 bytes, a multiple of 512), the used length is within the buffer, the image is readable, its newest entry this disk's.
 pub power-on-exactly : (r a disk image : List ℕ) (used : ℕ)
     → (powerOnBytes r a disk image used .answer ≡ 0)
     ↔ ((length r ≡ recordSize) × (length a ≡ privateSize) × ((length disk % 512 ≡ 0) × (512 ≤ length disk) × (length disk ≤ 33554432)) × (used ≤ length image) × (readable image used ≡ true) × (sameDisk (length disk / sectorSize) image used ≡ true))
@@ -177,7 +177,7 @@ power-on-exactly r a disk image used = (
       (eq-eqb (length r) recordSize (k .0), (eq-eqb (length a) privateSize (k .1), (whole-sectors (length disk) .1 (k .2), (le-leb used (length image) (k .3), (k .4, (k .5, tt)))))),
 )
 
--- THEOREM: it does so for every disk of 1 to 65,536 whole sectors with used length 0.
+-- THEOREM: it answers 0 for every disk of 1 to 65,536 whole sectors with used length 0.
 pub power-on-fresh : (r a disk image : List ℕ) (n : ℕ) → length r ≡ recordSize → length a ≡ privateSize → length disk ≡ 512 * n → 1 ≤ n → n ≤ 65536
     → powerOnBytes r a disk image 0 .answer ≡ 0
 power-on-fresh r a disk image n size private sectors some most =
@@ -185,7 +185,7 @@ power-on-fresh r a disk image n size private sectors some most =
     power-on-answer r a disk image 0
     ∙ rw (eq-eqb (length r) recordSize size, eq-eqb (length a) privateSize private) (power-on-empty disk image 0 whole)
 
--- a power-on leaves the disk
+-- a power-on does not change the disk
 pub power-on-leaves-disk : (image : List ℕ) (used : ℕ) (s : Store) → onStore (powerOn image used) s .state .disk ≡ s .disk
 unfolding onStore
 power-on-leaves-disk image used s = refl
@@ -197,14 +197,14 @@ abbrev pub storeAfter : List Step → Store → Store
 storeAfter [] s = s
 storeAfter (x ∷ xs) s = storeAfter xs (onStore x s .state)
 
--- .. say the machine after it
+-- .. represent the machine after it
 pub after-same : (xs : List Step) (s : Store) → Each Fed xs → StoreValid s → machineOf (storeAfter xs s) ≡ after xs (machineOf s)
 after-same [] s fed v = refl
 after-same (x ∷ xs) s fed v =
     let f = follows x s (fed .0) v in
     after-same xs (onStore x s .state) (fed .1) (f .valid) ∙ ap (after xs) (f .same)
 
--- steps that leave a port's request on the bytes leave it in the machine
+-- steps that keep a port's request on the bytes keep it in the machine
 step-leaves : (p : ℕ) (x : Step) (s : Store) → Fed x → StoreValid s → LeavesRequest onStore p x s → LeavesRequest step p x (machineOf s)
 step-leaves p (take q m) s fed v l = tt
 step-leaves p (serve x) s fed v l = l
@@ -220,7 +220,7 @@ list-leaves p (x ∷ xs) s fed v l =
     let f = follows x s (fed .0) v in
     (step-leaves p x s (fed .0) v (l .0), subst (AllLeave step p xs) (f .same) (list-leaves p xs (onStore x s .state) (fed .1) (f .valid) (l .1)))
 
--- a request that a port holds stays there until it is served or power comes on
+-- a request that a port holds is kept until it is served or a power-on is done
 pub request-kept : (p : ℕ) (m : List ℕ) (xs : List Step) (s : Store) → Each Fed xs → StoreValid s → machineOf s .ports p ≡ request m
     → AllLeave onStore p xs s → machineOf (storeAfter xs s) .ports p ≡ request m
 request-kept p m xs s fed v held leaves =

@@ -82,7 +82,7 @@ module _ (r a : List ℕ) (disk : Disk) (image : List ℕ) (used : ℕ) where
           × (machineOf (store (encode (poweredContents sectors image used)) (zeros privateSize) disk) ≡ poweredOn disk image used)
       powered = powered-store disk image used (power-on-machine disk image used diskBytes imageBytes disk-passed)
 
-      -- the bytes are valid after the power-on, and say the machine
+      -- the bytes after the power-on are valid, and represent the machine
       pub started-valid : StoreValid (started r a disk image used)
       started-valid = rw started-is (powered .0)
 
@@ -99,6 +99,6 @@ module _ (r a : List ℕ) (disk : Disk) (image : List ℕ) (used : ℕ) where
             hidden = list-hidden xs (started r a disk image used) fed started-valid;
           }
 
--- THEOREM
+-- THEOREM: condition 3.
 pub condition-3 : Condition3
 condition-3 r a disk image used answers diskBytes imageBytes xs fed = follows-machine r a disk image used answers diskBytes imageBytes xs fed

@@ -1,4 +1,4 @@
--- The answer table at the entries: an entry that passes the checks before and fails this one has this answer.
+-- The answer table at the entries: an entry that passes the checks above and fails this one has this answer.
 use mathlib.Core.Path.{_≡_, refl, _∙_}
 use mathlib.Core.Bool.{Bool, true, false}
 use Prim.Native.Nat.{ℕ, _*_, _/_, _≤_, _<_}
@@ -56,14 +56,14 @@ unsound-record (powerOn image used) s j e = absurd j
 -- ---- with a sound record
 
 module _ (s : Store) (isSound : sound (s .recordArea) ≡ true) where
-  -- 2: a mailbox of another length than mailboxSize
+  -- 2: a mailbox whose length is not mailboxSize
   pub take-mailbox : (p : ℕ) (m : List ℕ) → (length m ≡ mailboxSize → ⊥) → answerOf (take p m) s ≡ 2
   take-mailbox p m ne = entry-answer (take p m) s ∙ rw (isSound, ne-eqb (length m) mailboxSize ne)
 
   pub give-mailbox : (p : ℕ) (m : List ℕ) → (length m ≡ mailboxSize → ⊥) → answerOf (give p m) s ≡ 2
   give-mailbox p m ne = entry-answer (give p m) s ∙ rw (isSound, ne-eqb (length m) mailboxSize ne)
 
-  -- 2: a private area of another length than 2,624
+  -- 2: a private area whose length is not 2,624
   module _ (other : length (s .privateArea) ≡ privateSize → ⊥) where
     pub take-private : (p : ℕ) (m : List ℕ) → length m ≡ mailboxSize → answerOf (take p m) s ≡ 2
     take-private p m e = entry-answer (take p m) s ∙ rw (isSound, eq-eqb (length m) mailboxSize e, ne-eqb (length (s .privateArea)) privateSize other)

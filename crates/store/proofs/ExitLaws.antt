@@ -1,4 +1,4 @@
--- An entry is done or refused: what its checks say, and that a refusal leaves everything as it was.
+-- An entry is done or refused: which checks it has, and that a refusal changes nothing.
 use mathlib.Core.Path.{_≡_, refl}
 use Prim.Native.Nat.{ℕ, suc}
 use mathlib.Core.List.{List, []}
@@ -19,7 +19,7 @@ storeChecks (owner x) s = ownerChecks x (s .recordArea)
 storeChecks (save image used) s = saveChecks (s .recordArea) image used
 storeChecks (powerOn image used) s = powerOnChecks (s .recordArea) (s .privateArea) (s .disk .sectors) image used
 
--- what is left and seen of an entry that is done
+-- the buffers after an entry that is done, and what is seen of it
 abbrev pub doneStore : Step → Store → Store
 doneStore (take p m) s = let o = takeDone (s .recordArea) p m (s .privateArea) in store (o .recordArea) (o .privateArea) (s .disk)
 doneStore (serve x) s =
@@ -51,7 +51,7 @@ owner-is unlock r = refl
 owner-is (setVisible v) r = refl
 owner-is (sample reading) r = refl
 
--- THEOREM, condition 1: a nonzero answer leaves record, private area, disk, mailbox and image as they were, and work reports 0.
+-- THEOREM, condition 1: a nonzero answer leaves record, private area, disk, mailbox and image unchanged, and work reports 0.
 pub on-refused : (x : Step) (s : Store) (n : ℕ) → firstFailed (storeChecks x s) ≡ suc n → onStore x s ≡ record { state = s; seen = unchanged x (suc n) }
 unfolding onStore takeBytes serveBytes giveBytes workBytes saveBytes powerOnBytes
 on-refused (take p m) s n e = rw e

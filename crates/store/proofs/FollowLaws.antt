@@ -1,4 +1,4 @@
--- Valid bytes, the machine that they say, and what a store into a slot or the fill sector changes of it.
+-- Valid bytes, the machine that they represent, and how a store into a slot or the fill sector changes it.
 use mathlib.Core.Path.{_≡_, refl, sym, ap, ap₂, subst}
 use mathlib.Core.Bool.{Bool, true, false}
 use Prim.Native.Nat.{ℕ, _+_, _≤_, _<_}
@@ -39,7 +39,7 @@ pub record StoreValid (s : Store) : Type 0 where
 pub contents-valid : (s : Store) → StoreValid s → ContentsValid (decode (s .recordArea))
 contents-valid s v = sound-valid (s .recordArea) (v .recordBytes) (v .isSound)
 
--- ---- the machine that such bytes say is valid
+-- ---- the machine that such bytes represent is valid
 
 pub slot-sized : (a : List ℕ) (p : ℕ) → Sized privateSize a → p < 4 → Sized mailboxSize (slotBytes p a)
 slot-sized a p v h =
@@ -97,11 +97,11 @@ store-encoded c a disk v p k =
 
 -- ---- slots
 
--- the data of slot p, where it stands in the area
+-- the data of slot p, at its place in the area
 pub slot-data : (a : List ℕ) (p : ℕ) → part a (slotPlace p + registersSize) sectorSize ≡ dataOf (slotBytes p a)
 slot-data a p = sym (part-part a (slotPlace p) slotSize registersSize sectorSize (omega arith))
 
--- bytes stored in slot p are slot p's, and leave every other slot
+-- bytes stored in slot p are slot p's, and do not change any other slot
 slot-same : (a x : List ℕ) (p : ℕ) → length x ≡ slotSize → p < 4 → length a ≡ privateSize → slotBytes p (sets a (slotPlace p) x) ≡ x
 slot-same a x p e h size = part-same x a (slotPlace p) slotSize e (omega arith)
 
@@ -115,7 +115,7 @@ slot-other a x p i e ne = go (decLe i p)
 pub slot-fill : (a x : List ℕ) (p : ℕ) → length x ≡ slotSize → p < 4 → fillSectorOf (sets a (slotPlace p) x) ≡ fillSectorOf a
 slot-fill a x p e h = part-after x a (slotPlace p) fillPlace sectorSize (omega arith)
 
--- the ports after slot p got a stage and bytes
+-- the ports after slot p is given a stage and bytes
 pub ports-set : (ss : List Stage) (a x : List ℕ) (p : ℕ) (k : Stage) → length ss ≡ 4 → p < 4 → length x ≡ slotSize → length a ≡ privateSize → (i : ℕ)
     → portOf (getD (set ss p k) i empty) (slotBytes i (sets a (slotPlace p) x)) ≡ withPort p (portOf k x) (λ j. portOf (getD ss j empty) (slotBytes j a)) i
 ports-set ss a x p k four h e size i = go (eqb i p) refl
@@ -125,7 +125,7 @@ ports-set ss a x p k four h e size i = go (eqb i p) refl
     go true q = rw (eqb-true i p q) (ap₂ portOf (getD-set-same ss p k empty (omega arith)) (slot-same a x p e h size))
     go false q = let ne = eqb-false i p q in ap₂ portOf (getD-set-other ss p i k empty ne) (slot-other a x p i e ne)
 
--- .. and after slot p became empty
+-- .. and after slot p becomes empty
 pub ports-cleared : (ss : List Stage) (a : List ℕ) (p : ℕ) → length ss ≡ 4 → p < 4 → (i : ℕ)
     → portOf (getD (set ss p empty) i empty) (slotBytes i a) ≡ withPort p nothing (λ j. portOf (getD ss j empty) (slotBytes j a)) i
 ports-cleared ss a p four h i = go (eqb i p) refl

@@ -1,4 +1,4 @@
--- Nothing is lost by reading bytes as a machine: valid bytes that say the same machine are the same, but for what no rule looks at.
+-- Nothing is lost by reading bytes as a machine: valid bytes that represent the same machine are the same, except where no rule looks.
 use mathlib.Core.Path.{_≡_, refl, sym, ap, ap₂, _∙_, subst}
 use mathlib.Core.Bool.{Bool, true, false}
 use Prim.Native.Nat.{ℕ, zero, suc, _<_}
@@ -14,7 +14,7 @@ use Rattle.store.specs.Store.{Store, portOf, slotBytes, fillSectorOf, st
 use Rattle.store.proofs.SoundLaws.{sound-parts}
 use Rattle.store.proofs.FollowLaws.{StoreValid, contents-valid}
 
--- a port's content tells its slot's stage ..
+-- a port's content determines its slot's stage ..
 stage-told : (k l : Stage) (b c : List ℕ) → portOf k b ≡ portOf l c → k ≡ l
 stage-told empty empty b c e = refl
 stage-told held held b c e = refl
@@ -48,7 +48,7 @@ pub record SameBytes (s t : Store) : Type 0 where
   -- and the fill sector while a fill runs
   pub sameFillSector : (decode (s .recordArea) .device .command .fill ≡ idle → ⊥) → fillSectorOf (s .privateArea) ≡ fillSectorOf (t .privateArea)
 
--- THEOREM: two valid stores that say the same machine have the same bytes in all that counts.
+-- THEOREM: two valid stores that represent the same machine have the same bytes wherever a rule looks.
 pub nothing-lost : (s t : Store) → StoreValid s → StoreValid t → machineOf s ≡ machineOf t → SameBytes s t
 unfolding machineOf
 nothing-lost s t v w e =

@@ -1,4 +1,4 @@
--- The record of valid contents says those contents: what is encoded is decoded again.
+-- The record of valid contents decodes to those contents.
 use mathlib.Core.Path.{_≡_, refl, sym, ap, _∙_}
 use mathlib.Core.Bool.{Bool}
 use Prim.Native.Nat.{ℕ, zero, suc, _+_, _^_, _≤_, _<_}
@@ -23,7 +23,7 @@ use Rattle.model.proofs.EntryLaws.{flag-back, length-table}
 use Rattle.store.specs.Areas.{recordSize, headSize}
 use Rattle.store.specs.Record.{Stage, empty, held, answered, Contents, stageNumber, fillKind, fillFirst, fillEnd, transferKind, transferFirst, transferEnd, sizeFields, commandFields, settingsFields, thermalFields, fillFields, slotAt, slotFields, slotOf, slotsFields, headFields, encode, stageOf, fillOf, transferOf, flagOf, stageAt, transferAt, decode}
 
--- The values fit their places: four stages, four transfers, a whole history, and every number its width.
+-- The values fit their places: four stages, four transfers, a full history, and every number within its width.
 pub record ContentsFit (c : Contents) : Type 0 where
   pub stages : length (c .stages) ≡ 4
   pub transfers : length (c .device .command .pending) ≡ 4
@@ -62,7 +62,7 @@ pending-at visible [] (suc p) v = tt
 pending-at visible (t ∷ ts) zero v = v .0
 pending-at visible (t ∷ ts) (suc p) v = pending-at visible ts p (v .1)
 
--- slot i's fields, and the groups of the first half from each one on
+-- slot i's fields, and the groups of the first half, from each group on
 abbrev pub slot : Contents → ℕ → List Field
 slot c i = slotOf (c .stages) (c .device .command .pending) i
 
@@ -137,7 +137,7 @@ valid-fits c v =
 
 -- ---- the record's bytes
 
--- ---- a record of contents whose history is whole
+-- ---- a record of contents whose history is full
 
 module _ (c : Contents) (whole : length (c .device .thermal .history) ≡ historySize) where
   abbrev interval : ℕ
@@ -160,7 +160,7 @@ module _ (c : Contents) (whole : length (c .device .thermal .history) ≡ histor
       part-append-right (form headSize (headFields c)) (tableBytes interval index history) headSize sectorSize (length-form headSize (headFields c))
       (length-table interval index history whole)
 
-  -- .. and the history is its end
+  -- .. and the history is at its end
   pub encoded-history : part (encode c) (headSize + tableHeadSize) historySize ≡ history
   unfolding tableBytes
   encoded-history =
@@ -248,7 +248,7 @@ transfer-back none = refl
 transfer-back table = refl
 transfer-back (fillData first end) = refl
 
--- a list of four is its four elements
+-- a list of length four is its four elements
 pub four-back : {A : Type 0} (l : List A) (x : A) → length l ≡ 4 → getD l 0 x ∷ getD l 1 x ∷ getD l 2 x ∷ getD l 3 x ∷ [] ≡ l
 four-back [] x e = absurd (omega arith)
 four-back (a ∷ []) x e = absurd (omega arith)
@@ -283,7 +283,7 @@ module _ (c : Contents) (v : ContentsFit c) where
       (λ j. slot-back 0 (s .0) .1 j ∷ slot-back 1 (s .1) .1 j ∷ slot-back 2 (s .2) .1 j ∷ slot-back 3 (s .3) .1 j ∷ [])
       ∙ four-back (g .command .pending) none (v .transfers)
 
-  -- THE LAW of the record: what is encoded is decoded again.
+  -- THE LAW of the record: what is encoded is decoded to the same contents.
   pub decode-encode : decode (encode c) ≡ c
   unfolding decode
   decode-encode =

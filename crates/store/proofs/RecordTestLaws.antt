@@ -1,4 +1,4 @@
--- The tests in place say soundness, exactly.
+-- The tests in place are equivalent to soundness.
 use mathlib.Core.Path.{_≡_, refl, sym, ap, ap₂, _∙_, subst}
 use mathlib.Core.Bool.{Bool, true, false, not, _&&_, _||_}
 use Prim.Native.Nat.{ℕ, zero, suc, _+_, _-_, _≤_, _<_}
@@ -30,13 +30,13 @@ use Rattle.store.proofs.RecordLaws.{ContentsFit, valid-fits, length-enc
 use Rattle.store.proofs.TableInPlace.{implied, table-is, table-fixed}
 use Rattle.store.proofs.SoundLaws.{sound-parts, parts-sound, sound-valid}
 
--- ---- the spare bytes are those that no field takes
+-- ---- the spare bytes are those that belong to no field
 
 -- the places of the first half's fields
 abbrev headPlaces : List Field
 headPlaces = headFields (decode [])
 
--- whether i lies in one of the runs
+-- whether i is in one of the runs
 abbrev pub inRuns : List (ℕ × ℕ) → ℕ → Bool
 inRuns [] i = false
 inRuns (x ∷ xs) i = (leb (x .0) i && ltb i (x .0 + x .1)) || inRuns xs i
@@ -89,7 +89,7 @@ runs-within n (x ∷ xs) i w e = go (leb (x .0) i && ltb i (x .0 + x .1)) refl e
     go true q e rest = omega (arith, ltb-true i (x .0 + x .1) (and-right (leb (x .0) i) (ltb i (x .0 + x .1)) q), w .0)
     go false q e rest = rest e
 
--- runs whose every byte is 0
+-- runs in which every byte is 0
 pub zero-run : (runs : List (ℕ × ℕ)) (r : List ℕ) → ((i : ℕ) → inRuns runs i ≡ true → getD r i 0 ≡ 0) → zeroRuns runs r ≡ true
 zero-run [] r h = refl
 zero-run (x ∷ xs) r h =
@@ -116,7 +116,7 @@ zero-run (x ∷ xs) r h =
             (and-both (leb (x .0) (x .0 + i)) (ltb (x .0 + i) (x .0 + x .1)) (le-leb (x .0) (x .0 + i) (omega arith)) (lt-ltb (x .0 + i) (x .0 + x .1) (omega arith))))
         go (no k) = absurd (omega (arith, rw length-take at b))
 
--- ---- named values are what they say
+-- ---- named values encode to the numbers that they were read from
 
 pub flag-exact : (n : ℕ) → n ≤ 1 → n ≡ bit (flagOf n)
 flag-exact zero h = refl
@@ -190,7 +190,7 @@ transfer-test (fillData first end) = refl
 
 -- ---- from the tests to the record
 
--- every byte of the first half that no field takes is spare, whatever the fields hold
+-- every byte of the first half that belongs to no field is spare, whatever the fields hold
 pub head-rest : (r : List ℕ) (c : Contents) → length r ≡ recordSize → zeroRuns spareRuns r ≡ true → (i : ℕ) → outside (headFields c) i ≡ true → getD (part r 0 headSize) i 0 ≡ 0
 unfolding decode
 head-rest r c size spare i out = go (decLt i headSize)
@@ -317,7 +317,7 @@ module _ (r : List ℕ) (b : Bytes r) (size : length r ≡ recordSize) where
   head-is spare flags fill slotsOk =
       form-unique headSize (headFields c) head (bytes-part r 0 headSize b) (length-part r 0 headSize (omega arith)) refl (head-read flags fill slotsOk) (head-rest r (decode r) size spare)
 
-  -- the tests give the record back
+  -- if the tests pass, the record is the encoding of its contents
   again : zeroRuns spareRuns r ≡ true → flagsNamed r ≡ true → fillNamed r ≡ true → slotsTest ≡ true → tableFixed r headSize ≡ true → encode c ≡ r
   unfolding encode decode
   again spare flags fill slotsOk fixed =
@@ -354,7 +354,7 @@ hold-tests r t = rw (eq-eqb (length r) recordSize (t .size), t .spare, t .flags,
 -- ---- from a sound record to the tests
 
 module _ (r : List ℕ) (b : Bytes r) (same : encode (decode r) ≡ r) (fit : ContentsFit (decode r)) where
-  -- what the record's contents say stands in it
+  -- the fields of the record's contents are in the record
   says : (fs : List Field) → Reads fs (encode (decode r)) → Reads fs r
   says fs = subst (Reads fs) same
 
@@ -445,7 +445,7 @@ sound-in-place r b = tests-same (sound r) (soundInPlace r) there back
 pub sound-tests : (r : List ℕ) → Bytes r → sound r ≡ true → InPlace r
 sound-tests r b e = tests-hold r (sym (sound-in-place r b) ∙ e)
 
--- the second half of a sound record is the table of what it says
+-- the second half of a sound record is the table of its contents
 pub sound-table : (r : List ℕ) → Bytes r → sound r ≡ true
     → part r headSize sectorSize ≡ (let d = decode r .device in tableBytes (d .settings .logInterval .state) (d .thermal .index) (d .thermal .history))
 unfolding decode

@@ -1,4 +1,4 @@
--- A save that answers 0, and then a power-on from that image on that disk, whatever has been written to it since.
+-- A save that answers 0, and then a power-on from that image on that disk, whatever was written to it in between.
 use mathlib.Core.Path.{_≡_, refl, sym, ap, _∙_}
 use Prim.Native.Nat.{ℕ, _+_, _/_}
 use native.Mathlib.Omega.{arith}

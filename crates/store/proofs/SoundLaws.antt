@@ -78,7 +78,7 @@ timer-test n (inr h) = go (eqb n 0)
     go true = refl
     go false = le-leb 10 n h
 
--- what the widths of the record say of a device, beside the clauses
+-- what the widths of the record's fields state about a device, in addition to the clauses
 pub record DeviceFits (d : Device) : Type 0 where
   pub commandWords : (d .command .code < 256 ^ 2) × (d .command .action < 256 ^ 2) × (d .command .function < 256 ^ 2)
   pub timers : (d .settings .readTimer < 256 ^ 2) × (d .settings .writeTimer < 256 ^ 2)
@@ -141,7 +141,7 @@ module _ (d : Device) where
       )
       (ranges-states (s .writeCache .state) (s .reordering .state) (s .logInterval .state) (v .cacheValid) (v .reorderingValid) (v .intervalValid))
 
-  -- every test says its clause ..
+  -- every test implies its clause ..
   pub tests-clauses : DeviceFits d → deviceSound d ≡ true → Valid d
   unfolding deviceSound
   tests-clauses f e =
@@ -162,7 +162,7 @@ module _ (d : Device) where
             };
       }
 
-  -- .. and where the clauses hold, so do the tests
+  -- .. and if the clauses hold, the tests pass
   pub clauses-tests : Valid d → deviceSound d ≡ true
   unfolding deviceSound
   clauses-tests v =
@@ -176,7 +176,7 @@ module _ (d : Device) where
       )
       (lt-ltb (d .thermal .index) historySize (v .thermalValid .indexValid))
 
--- ---- what a record says fits
+-- ---- the values of a record fit their places
 
 device-fits : (r : List ℕ) → Bytes r → length r ≡ recordSize → DeviceFits (decode r .device)
 unfolding decode
@@ -211,7 +211,7 @@ parts-sound r p =
     (rw (p .again) (same-refl r))
     (p .tests)
 
--- THEOREM: what a sound record says meets document 01's clauses.
+-- THEOREM: the contents of a sound record meet document 01's clauses.
 pub sound-valid : (r : List ℕ) → Bytes r → sound r ≡ true → ContentsValid (decode r)
 sound-valid r b e =
     let p = sound-parts r e in
@@ -235,11 +235,11 @@ sound-encode c v =
       tests = ap (λ (x : Contents). deviceSound (x .device)) back ∙ clauses-tests (c .device) (v .device);
     })
 
--- .. again in document 01's numbers; what else is asked is that the values fit their places
+-- .. again in document 01's numbers; the other requirement is that the values fit their places
 pub clauses-sound : (c : Contents) → Clauses (c .device) → Stored (c .device) → length (c .stages) ≡ 4 → sound (encode c) ≡ true
 clauses-sound c clauses stored four = sound-encode c (record { device = clauses-valid (c .device) clauses stored; four = four })
 
--- THEOREM: values that fit their places meet the clauses exactly where their record is sound.
+-- THEOREM: values that fit their places meet the clauses exactly if their record is sound.
 pub sound-exactly : (c : Contents) → ContentsFit c → (sound (encode c) ≡ true) ↔ ContentsValid c
 sound-exactly c f =
     (λ e. subst ContentsValid (decode-encode c f) (sound-valid (encode c) (bytes-encode c f) e), sound-encode c)

@@ -1,4 +1,4 @@
--- A slot's stage stored into a record: the record with that stage, and no other byte changed.
+-- A slot's stage stored into a record gives the record with that stage, and no other byte changes.
 use mathlib.Core.Path.{_≡_, refl, sym, ap, _∙_}
 use mathlib.Core.List.{List, [], _∷_, _++_}
 use Prim.Native.Nat.{ℕ, zero, suc, _+_, _*_, _≤_, _<_}
@@ -21,7 +21,7 @@ use Rattle.store.proofs.RecordLaws.{four-back}
 abbrev four : Device → Stage → Stage → Stage → Stage → Contents
 four d a b c e = record { device = d; stages = a ∷ b ∷ c ∷ e ∷ [] }
 
--- 22 fields stand before the slots, and four for each
+-- 22 fields come before the slots, and each slot has four
 half-set : (d : Device) (a b c e s : Stage) (p : ℕ) → p < 4
     → put 1 (form headSize (headFields (four d a b c e))) (slotAt p) (stageNumber s) ≡ form headSize (headFields (withStage p s (four d a b c e)))
 unfolding form
@@ -54,7 +54,7 @@ stage-stored c p s size h =
     ∙ half-set d (getD ss 0 empty) (getD ss 1 empty) (getD ss 2 empty) (getD ss 3 empty) s p h
     ∙ ap (λ (x : Contents). form headSize (headFields (withStage p s x))) same)
 
--- the stage that a record says of slot p
+-- the stage of slot p in a record
 pub stage-read : (r : List ℕ) (p : ℕ) → p < 4 → getD (decode r .stages) p empty ≡ stageAt r p
 unfolding decode
 stage-read r zero h = refl

@@ -45,12 +45,12 @@ use Rattle.store.proofs.FollowLaws.{StoreValid, contents-valid, machine
 
 -- ---- the fill's sector
 
--- a fill's sector, kept while it runs, is kept
+-- keeping a fill's sector while the fill runs, twice, is the same as once
 kept-once : (f : Fill) (s : List ℕ) → whileRunning f (whileRunning f s) ≡ whileRunning f s
 kept-once idle s = refl
 kept-once (running first next end) s = refl
 
--- with no fill it does not matter
+-- with no fill the sector does not matter
 idle-any : (f : Fill) (s t : List ℕ) → f ≡ idle → whileRunning f s ≡ whileRunning f t
 idle-any f s t e = rw e
 
@@ -59,14 +59,14 @@ machine-path : (d : Device) (s t : List ℕ) (ports ports′ : ℕ → Port) (di
     → whileRunning (d .command .fill) s ≡ whileRunning (d .command .fill) t → ((i : ℕ) → ports i ≡ ports′ i) → machine d s ports disk ≡ machine d t ports′ disk
 machine-path d s t ports ports′ disk e f = λ j. record { device = d; sector = e j; ports = fun-ext f j; disk = disk }
 
--- ---- what one step has to do
+-- ---- what must hold for one step
 
 pub record Follows (x : Step) (s : Store) : Type 0 where
   pub valid : StoreValid (onStore x s .state)
   pub same : machineOf (onStore x s .state) ≡ step x (machineOf s) .state
   pub seenSame : onStore x s .seen ≡ step x (machineOf s) .seen
 
--- what a step that is done has to do
+-- what must hold for a step that is done
 record Done (x : Step) (s : Store) : Type 0 where
   valid : StoreValid (doneStore x s)
   same : machineOf (doneStore x s) ≡ does x (machineOf s)
@@ -89,7 +89,7 @@ answered-says empty b = refl
 answered-says held b = refl
 answered-says answered b = refl
 
--- on valid bytes an entry is refused exactly as the machine's step
+-- on valid bytes an entry is refused exactly if the machine's step is, with the same number
 checks-same : (x : Step) (s : Store) → StoreValid s → firstFailed (storeChecks x s) ≡ firstFailed (checks x (machineOf s))
 unfolding machineOf
 checks-same (take p m) s v =
@@ -124,7 +124,7 @@ fill-after noWrite d b k h = refl
 fill-after (oneSector lba sector) d b k h = refl
 fill-after (newFill first end sector) d b k h = part-same sector b fillPlace sectorSize (k .2 .size) (omega arith)
 
--- .. and every slot as it was
+-- .. and every slot is unchanged
 ports-after : (w : Writing) (ss : List Stage) (b : List ℕ) → length ss ≡ 4 → (i : ℕ)
     → portOf (getD ss i empty) (slotBytes i (withFillSector w b)) ≡ portOf (getD ss i empty) (slotBytes i b)
 ports-after noWrite ss b h i = refl
@@ -140,7 +140,7 @@ forgotten : (g f : Fill) (s : List ℕ) → (g ≡ idle) ⊎ (g ≡ f) → while
 forgotten g f s (inl e) = idle-any g s (whileRunning f s) e
 forgotten g f s (inr e) = rw e (sym (kept-once f s))
 
--- the machine has the same sector, whether or not it forgot one that no fill used
+-- the machine has the same sector, whether or not it dropped one that no fill used
 sector-after : (w : Writing) (v : Volume) (s : List ℕ) (f : Fill) → (v .device .command .fill ≡ idle) ⊎ (v .device .command .fill ≡ f)
     → whileRunning (written w v .device .command .fill) (fillSectorAfter w s)
     ≡ whileRunning (written w v .device .command .fill) (fillSectorAfter w (whileRunning f s))
@@ -164,7 +164,7 @@ idle-work n sector v e = ap (λ (k : ℕ). iterate k (sectorStep sector) v) none
     none : workCount n (v .device .command .fill) ≡ 0
     none = unfold workCount in (rw e (omega arith))
 
--- the bytes that a power-on leaves say the machine at power-on
+-- the bytes after a power-on represent the machine at power-on
 pub powered-store : (disk : Disk) (image : List ℕ) (used : ℕ) → MachineValid (poweredOn disk image used)
     → StoreValid (store (encode (poweredContents (disk .sectors) image used)) (zeros privateSize) disk)
     × (machineOf (store (encode (poweredContents (disk .sectors) image used)) (zeros privateSize) disk) ≡ poweredOn disk image used)
@@ -196,7 +196,7 @@ module _ (s : Store) (v : StoreValid s) where
   four : length (c .stages) ≡ 4
   four = c-valid .four
 
-  -- another stage of slot p
+  -- a new stage for slot p
   stage-valid : (p : ℕ) (k : Stage) → ContentsValid (withStage p k c)
   stage-valid p k = record { device = c-valid .device; four = length-set (c .stages) p k ∙ four }
 
@@ -248,7 +248,7 @@ module _ (s : Store) (v : StoreValid s) where
   m-valid : MachineValid M
   m-valid = machine-valid s v
 
-  -- a decision performed on the bytes is the decision performed on the machine
+  -- a decision performed on the bytes equals the decision performed on the machine
   module _ (p : ℕ) (port : p < portCount) (k : Decision) (kv : DecisionValid (c .device) k) where
     abbrev pub after : Volume
     after = volumeAfter k (s .disk)
@@ -316,7 +316,7 @@ module _ (s : Store) (v : StoreValid s) where
   abbrev workAfter : ℕ → List ℕ → Volume
   workAfter n sector = workVolume n sector (record { device = c .device; disk = s .disk })
 
-  -- whether or not the machine forgot a sector that no fill used, the work is the same ..
+  -- whether or not the machine dropped a sector that no fill used, the work is the same ..
   work-sector : (n : ℕ) (f : Fill) → c .device .command .fill ≡ f → workAfter n (fillSectorOf a) ≡ workAfter n (whileRunning f (fillSectorOf a))
   work-sector n idle e = idle-work n (fillSectorOf a) _ e ∙ sym (idle-work n [] _ e)
   work-sector n (running first next end) e = refl
@@ -349,7 +349,7 @@ module _ (s : Store) (v : StoreValid s) where
 
   -- ---- owner steps
 
-  -- a device changed, the rest as it was
+  -- a device changed, and the rest unchanged
   device-done : (d : Device) → Valid d → d .native ≡ c .device .native
       → whileRunning (d .command .fill) (fillSectorOf a) ≡ whileRunning (d .command .fill) (whileRunning (c .device .command .fill) (fillSectorOf a))
       → StoreValid (store (encode (withDevice d c)) a (s .disk))
@@ -367,7 +367,7 @@ module _ (s : Store) (v : StoreValid s) where
   native-kept : interrupt (c .device) .native ≡ c .device .native
   native-kept = ap (λ (d : Device). d .native) (interrupt-kept (c .device))
 
-  -- N stays, and the fill sector is that of the fill, if it still runs
+  -- N is unchanged, and the fill sector is that of the fill, if it still runs
   owner-keeps : (x : OwnerStep)
       → (ownerRule x (c .device) .native ≡ c .device .native)
       × (whileRunning (ownerRule x (c .device) .command .fill) (fillSectorOf a)

@@ -1,4 +1,4 @@
--- A temperature table that stands in a run: its fixed bytes, tested in place, make it the table of what it says.
+-- A temperature table in a run: if its fixed bytes pass the tests in place, it is the table of its own interval, index and history.
 use mathlib.Core.Path.{_≡_, refl, sym, ap, ap₂, _∙_}
 use mathlib.Core.Bool.{Bool, true, false, not, _&&_, _||_}
 use Prim.Native.Nat.{ℕ, _+_, _-_, _^_, _≤_, _<_}
@@ -27,7 +27,7 @@ pub implied : (a b : Bool) → (not a || b) ≡ true → a ≡ true → b ≡ tr
 implied true b h e = h
 implied false b h e = absurd (let z : _≡_ {A = ℕ} 0 1 = cc in omega arith)
 
--- the zeros of a table: those bytes of its head that are in no field
+-- the zeros of a table: those bytes of its head that belong to no field
 abbrev inZeros : ℕ → Bool
 inZeros i = leb tableZerosPlace i && ltb i tableSizePlace
 
@@ -103,14 +103,14 @@ module _ (r : List ℕ) (at : ℕ) (b : Bytes r) (fits : at + sectorSize ≤ len
           ∙ gap (implied (outside fs i) (inZeros i) (below-all tableHeadSize (λ j. not (outside fs j) || inZeros j) (table-gap interval index) i k) out)
       go (no k) = List·getD-eq-default tableHead 0 (rw (length-part r at tableHeadSize (omega arith)) (omega arith))
 
-  -- the run holds the table of the interval, index and history that stand there
+  -- the run holds the table of the interval, index and history that are there
   pub table-is : tableFixed r at ≡ true → part r at sectorSize ≡ tableBytes interval index (part r (at + tableHeadSize) historySize)
   unfolding tableBytes
   table-is h =
       let front = form-unique tableHeadSize (tableFields interval index) tableHead (bytes-part r at tableHeadSize b) (length-part r at tableHeadSize (omega arith)) refl (table-read h) (table-rest h) in
       take-add tableHeadSize historySize (drop at r) ∙ ap₂ (λ (x y : List ℕ). x ++ y) front (ap (take historySize) (drop-drop tableHeadSize at r))
 
--- .. and where a table stands, its fixed bytes pass
+-- .. and the fixed bytes of a table pass the tests
 module _ (r : List ℕ) (at : ℕ) (fits : at + sectorSize ≤ length r) (interval index : ℕ) (history : List ℕ) (i : interval < 256 ^ 2) (x : index < 256 ^ 2) (h : length history ≡ historySize) (stands : part r at sectorSize ≡ tableBytes interval index history) where
   abbrev tableHere : List ℕ
   tableHere = tableBytes interval index history

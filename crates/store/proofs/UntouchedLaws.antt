@@ -1,4 +1,4 @@
--- What the machine does not hold: the bytes that a step that is done leaves as they were.
+-- The bytes that the machine does not hold, and that a step that is done leaves unchanged.
 use mathlib.Core.Path.{_≡_, refl, sym, _∙_}
 use mathlib.Core.Logic.{_⊎_, inl, inr}
 use Prim.Native.Nat.{ℕ, _+_, _*_, _≤_, _<_}
@@ -33,7 +33,7 @@ area-places p = (refl, refl, refl, refl)
 passed : (x : Step) (s : Store) → onStore x s .seen .answer ≡ 0 → firstFailed (storeChecks x s) ≡ 0
 passed x s answers = sym (entry-answer x s) ∙ answers
 
--- i is no byte of slot p
+-- i is not a byte of slot p
 abbrev pub OutsideSlot : ℕ → ℕ → Type 0
 OutsideSlot p i = (i < slotPlace p) ⊎ (slotPlace p + slotSize ≤ i)
 
@@ -41,7 +41,7 @@ slot-stored : (a x : List ℕ) (p i : ℕ) → length x ≡ slotSize → Outside
 slot-stored a x p i e (inl h) = getD-sets-before x a (slotPlace p) i h
 slot-stored a x p i e (inr h) = getD-sets-after x a (slotPlace p) i (omega arith)
 
--- take: the other slots and the fill sector stay
+-- take: the other slots and the fill sector are unchanged
 pub take-leaves : (p : ℕ) (m : List ℕ) (s : Store) (i : ℕ) → onStore (take p m) s .seen .answer ≡ 0 → OutsideSlot p i
     → getD (onStore (take p m) s .state .privateArea) i 0 ≡ getD (s .privateArea) i 0
 take-leaves p m s i answers out =
@@ -49,7 +49,7 @@ take-leaves p m s i answers out =
     let size = eqb-true (length m) mailboxSize (all-pass 8 (storeChecks (take p m) s) (omega arith) e .1 .0) in
     rw (on-done (take p m) s e) (slot-stored (s .privateArea) m p i size out)
 
--- give, work, the owner steps and save: the whole private area stays
+-- give, work, the owner steps and save: the whole private area is unchanged
 pub record PrivateKept (x : Step) (s : Store) : Type 0 where
   pub kept : onStore x s .state .privateArea ≡ s .privateArea
 
@@ -65,12 +65,12 @@ pub owner-leaves : (x : OwnerStep) (s : Store) → PrivateKept (owner x) s
 unfolding onStore
 owner-leaves x s = record { kept = refl }
 
--- save: record, private area and disk stay
+-- save: record, private area and disk are unchanged
 pub save-leaves : (image : List ℕ) (used : ℕ) (s : Store) → onStore (save image used) s .state ≡ s
 unfolding onStore
 save-leaves image used s = refl
 
--- the owner steps leave the disk
+-- the owner steps do not change the disk
 pub owner-disk : (x : OwnerStep) (s : Store) → onStore (owner x) s .state .disk ≡ s .disk
 unfolding onStore
 owner-disk x s = refl
@@ -80,7 +80,7 @@ pub power-on-zeroes : (image : List ℕ) (used : ℕ) (s : Store) → onStore (p
     → onStore (powerOn image used) s .state .privateArea ≡ zeros 2624
 power-on-zeroes image used s answers = rw (on-done (powerOn image used) s (passed (powerOn image used) s answers))
 
--- serve: the other slots stay, and the fill sector unless a fill begins
+-- serve: the other slots are unchanged, and so is the fill sector unless a fill begins
 abbrev pub BeginsFill : Writing → Type 0
 BeginsFill noWrite = ⊥
 BeginsFill (oneSector lba sector) = ⊥

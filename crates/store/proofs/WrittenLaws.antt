@@ -1,4 +1,4 @@
--- Storing the fields over a record whose spare and fixed bytes stand gives the record of the new values.
+-- Storing the fields over a record whose spare and fixed bytes are right gives the record of the new values.
 use mathlib.Core.Path.{_≡_, refl, sym, ap, _∙_, subst}
 use mathlib.Core.Bool.{true}
 use Prim.Native.Nat.{ℕ, _+_}
@@ -34,7 +34,7 @@ table-stored : (i x interval index : ℕ) (history : List ℕ) → put 2 (put 2 
 unfolding tableBytes form put le
 table-stored i x interval index history = refl
 
--- .. and behind the first half
+-- .. and after the first half
 table-behind : (head : List ℕ) (i x interval index : ℕ) (history : List ℕ) → length head ≡ headSize
     → stores (tableNumbers interval index) (head ++ tableBytes i x history) ≡ head ++ tableBytes interval index history
 table-behind head i x interval index history e =
@@ -43,7 +43,7 @@ table-behind head i x interval index history e =
     ∙ put-behind 2 head (put 2 t tableIntervalPlace interval) headSize tableIndexPlace index e
     ∙ ap (λ (l : List ℕ). head ++ l) (table-stored i x interval index history)
 
--- THE LAW of writing: the fields of the first half and the table's two numbers are all that is stored.
+-- THE LAW of writing: it is enough to store the fields of the first half and the table's two numbers.
 pub written : (r : List ℕ) (c : Contents) → Bytes r → length r ≡ recordSize → zeroRuns spareRuns r ≡ true → tableFixed r headSize ≡ true
     → c .device .thermal .history ≡ part r (headSize + tableHeadSize) historySize
     → stores (tableNumbers (c .device .settings .logInterval .state) (c .device .thermal .index)) (stores (headFields c) r) ≡ encode c
@@ -56,7 +56,7 @@ written r c b size spare fixed kept =
     ∙ table-behind head _ _ interval index (part r (headSize + tableHeadSize) historySize) (length-form headSize (headFields c))
     ∙ ap (λ (h : List ℕ). head ++ tableBytes interval index h) (sym kept)
 
--- ---- which records have their spare and fixed bytes
+-- ---- which records have the right spare and fixed bytes
 
 module _ (c : Contents) (fit : ContentsFit c) where
   again : encode (decode (encode c)) ≡ encode c

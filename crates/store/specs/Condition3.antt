@@ -1,4 +1,4 @@
--- The statement of condition 3 of document 00.
+-- The statement of document 00's condition 3.
 use mathlib.Core.Path.{_≡_}
 use Prim.Native.Nat.{ℕ}
 use mathlib.Core.List.{List, [], _∷_, map}
@@ -13,11 +13,11 @@ use Rattle.store.specs.OnStore.{store, onStore}
 use Rattle.model.specs.Buffers.{Image}
 use Rattle.store.specs.Areas.{Record, Area}
 
--- what is left and seen of a step on the bytes, read as a machine
+-- the outcome of a step on the bytes, read as a machine
 abbrev pub asMachine : Outcome Store → Outcome Machine
 asMachine o = record { state = machineOf (o .state); seen = o .seen }
 
--- "No sector outside the visible disk of that moment is ever written; all of these keep their bytes.": V is that before the step.
+-- "No sector outside the visible disk of that moment is ever written; all of these keep their bytes.": V is the one before the step.
 abbrev pub keptHidden : Store → Store → Type 0
 keptHidden before after =
     let visible = machineOf before .device .visible in
@@ -27,7 +27,7 @@ abbrev pub HiddenKept : List Step → Store → Type 0
 HiddenKept [] s = Unit {0}
 HiddenKept (x ∷ xs) s = keptHidden s (onStore x s .state) × HiddenKept xs (onStore x s .state)
 
--- the bytes after a first power-on, whatever record and private area held
+-- the bytes after a first power-on, whatever the record and the private area held
 abbrev pub started : Record → Area → Disk → Image → ℕ → Store
 started r a disk image used =
     let o = powerOnBytes r a (disk .sectors) image used in
@@ -43,7 +43,7 @@ pub record FollowsMachine (r : Record) (a : Area) (disk : Disk) (image : Image) 
   pub hidden : HiddenKept xs (started r a disk image used)
 
 -- CONDITION 3. "Start with a power-on that answers 0 .. on any disk and image. Consider every list of our steps after it: .. refused ones
--- included, in any order, with any inputs". Nothing is asked of the old record and private area; of disk, image and what is fed, that
+-- included, in any order, with any inputs". Nothing is required of the old record and private area; of disk, image and what is fed, only that
 -- bytes are bytes.
 abbrev pub Condition3 : Type 0
 Condition3 =

@@ -1,5 +1,5 @@
--- The ten entries: what each answers, and every byte afterwards of the buffers that it may write. The other buffers are
--- given to be read only. An entry whose checks fail gives the number of the first and leaves all as they were.
+-- The ten entries: what each answers, and every byte afterwards of the buffers that it may write. It only reads the other
+-- buffers. An entry whose checks fail answers with the number of the first that fails, and changes nothing.
 use mathlib.Core.Bool.{Bool, true, false}
 use Prim.Native.Nat.{ℕ, _+_, _*_, _/_}
 use mathlib.Core.List.{List, [], _∷_}
@@ -25,7 +25,7 @@ use Rattle.store.specs.Areas.{Area, Record, Sectors}
 
 -- ---- checks that entries share
 
--- 4, "device record unsound", which a record of another size is too
+-- 4, "device record unsound"; a record of another size is unsound too
 abbrev pub soundRecord : Record → Check
 soundRecord r = (sound r, badRecord)
 
@@ -49,7 +49,7 @@ abbrev pub mailboxChecks : Stage → Record → ℕ → Mailbox → Area → Lis
 mailboxChecks needed r p m a =
     soundRecord r ∷ ofSize mailboxSize m ∷ ofSize privateSize a ∷ goodPort p ∷ inStage needed r p ∷ []
 
--- the record with another stage of slot p, and with another device
+-- the record with a new stage for slot p, and with a new device
 abbrev pub withStage : ℕ → Stage → Contents → Contents
 withStage p s c = record { device = c .device; stages = set (c .stages) p s }
 
@@ -176,7 +176,7 @@ ownerBytes cs f r = let n = firstFailed cs in ifPassed n (ownerDone f r) (record
 abbrev pub ownerChecks : OwnerStep → Record → List Check
 ownerChecks x r = soundRecord r ∷ (goodValue x (decode r .device), badValue) ∷ []
 
--- the owner's step x
+-- the owner step x
 abbrev pub ownerEntry : OwnerStep → Record → OwnerAfter
 ownerEntry x r = ownerBytes (ownerChecks x r) (ownerRule x) r
 
@@ -197,7 +197,7 @@ sampleBytes r reading = ownerEntry (sample reading) r
 
 -- ---- save: record, image, used length
 
--- the C caller is told the used length by the answer: after 0 it is 560 more
+-- the C caller derives the new used length from the answer: after 0 it is 560 more
 pub record SaveAfter : Type 0 where
   pub answer : ℕ
   pub image : Image

@@ -1,4 +1,4 @@
--- A step on the bytes, assembled from the ten entries and nothing else.
+-- A step on the bytes, built from the ten entries and nothing else.
 use Prim.Native.Nat.{ℕ}
 use mathlib.Core.List.{List, []}
 use Rattle.model.specs.Step.{OwnerStep, lock, unlock, setVisible, sample, Step, take, serve, give, work, owner, save, powerOn, Outcome, answerOnly, answeredMailbox, answeredImage}

@@ -1,4 +1,4 @@
--- The device record: the device and the four slots' stages as 1,024 bytes, and what such bytes say.
+-- The device record: the device and the four slots' stages as 1,024 bytes, and what such bytes decode to.
 use mathlib.Core.Bool.{Bool}
 use Prim.Native.Nat.{ℕ, _+_, _*_}
 use mathlib.Core.List.{List, [], _∷_, _++_}
@@ -25,7 +25,7 @@ pub record Contents : Type 0 where
   pub device : Device
   pub stages : List Stage
 
--- ---- cases as numbers; what the present case does not use is 0
+-- ---- cases as numbers; a number that the present case does not use is 0
 
 abbrev pub stageNumber : Stage → ℕ
 stageNumber empty = 0
@@ -122,7 +122,7 @@ encode c =
     let d = c .device in
     form headSize (headFields c) ++ tableBytes (d .settings .logInterval .state) (d .thermal .index) (d .thermal .history)
 
--- ---- what the bytes say
+-- ---- what the bytes decode to
 
 abbrev pub stageOf : ℕ → Stage
 stageOf n = if eqb n 1 then held else if eqb n 2 then answered else empty

@@ -1,4 +1,4 @@
--- Soundness as tests on the record's bytes in place, with no second copy of it. They say the same as `sound` (proofs/RecordTestLaws.antt).
+-- Soundness as tests on the record's bytes in place, with no second copy. They are equivalent to `sound` (proofs/RecordTestLaws.antt).
 use mathlib.Core.Bool.{Bool, true, _&&_, _||_}
 use Prim.Native.Nat.{ℕ, _+_, _-_}
 use mathlib.Core.List.{List, [], _∷_}
@@ -26,17 +26,17 @@ zeroRuns (x ∷ xs) r = allZero (part r (x .0) (x .1)) && zeroRuns xs r
 unfoldable pub flagsNamed : Record → Bool
 flagsNamed r = leb (get 1 r 16) 1 && leb (get 1 r 17) 1 && leb (get 1 r 34) 1 && (leb (get 1 r 35) 1 && leb (get 1 r 36) 1)
 
--- a fill runs or not; its numbers are 0 where it does not
+-- a fill runs or not; if not, its numbers are 0
 unfoldable pub fillNamed : Record → Bool
 fillNamed r = eqb (get 1 r 18) 1 || (eqb (get 1 r 18) 0 && eqb (get 8 r 48) 0 && (eqb (get 8 r 56) 0 && eqb (get 8 r 64) 0))
 
--- slot i: a named stage and kind; the transfer's numbers are 0 where it is no fill's
+-- slot i: a named stage and kind; the transfer's numbers are 0 unless it is a fill's
 unfoldable pub slotNamed : Record → ℕ → Bool
 slotNamed r i =
     leb (get 1 r (slotAt i)) 2
     && (eqb (get 1 r (slotAt i + 1)) 2 || (leb (get 1 r (slotAt i + 1)) 1 && eqb (get 8 r (slotAt i + 8)) 0 && eqb (get 8 r (slotAt i + 16)) 0))
 
--- the fixed bytes of a temperature table that stands at a place of a run
+-- the fixed bytes of a temperature table at a place of a run
 unfoldable pub tableFixed : List ℕ → ℕ → Bool
 tableFixed run at =
     eqb (get 4 run at) tableVersions

@@ -1,4 +1,4 @@
--- When a record is sound: it is the record of values that meet document 01's clauses.
+-- A record is sound if it is the record of values that meet document 01's clauses.
 use mathlib.Core.Bool.{Bool, true, false, not, _&&_, _||_}
 use Prim.Native.Nat.{ℕ}
 use mathlib.Core.List.{List, [], _∷_}
@@ -29,7 +29,7 @@ abbrev pub pendingSound : ℕ → List Transfer → Bool
 pendingSound visible [] = true
 pendingSound visible (t ∷ ts) = transferSound visible t && pendingSound visible ts
 
--- "a fill and an owed transfer never coexist", and one transfer is pending at most
+-- "a fill and an owed transfer never coexist", and at most one transfer is pending
 unfoldable pub commandSound : ℕ → Command → Bool
 commandSound visible c =
     fillSound visible (c .code) (c .fill)
@@ -55,7 +55,7 @@ deviceSound d =
     && settingsSound (d .settings)
     && (ltb (d .thermal .minutes) (d .settings .logInterval .state) && ltb (d .thermal .index) historySize)
 
--- "it has 1,024 bytes"; "every stage, port, mark, flag .. has one of its named values; spare bytes are zero": written down again,
--- what it says is the same bytes.
+-- "it has 1,024 bytes"; "every stage, port, mark, flag .. has one of its named values; spare bytes are zero": what the record decodes to
+-- encodes to the same bytes.
 unfoldable pub sound : Record → Bool
 sound r = eqb (length r) recordSize && same (encode (decode r)) r && deviceSound (decode r .device)
