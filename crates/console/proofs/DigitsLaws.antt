@@ -1,4 +1,4 @@
--- Laws of numbers as text: how many digits, what they are, and what they say.
+-- Laws of numbers as text: how many digits there are, what they are, and what number they mean.
 use mathlib.Core.Path.{_≡_, refl, sym, ap, _∙_}
 use mathlib.Core.Bool.{Bool, true, false}
 use Prim.Native.Nat.{ℕ, zero, suc, _+_, _-_, _*_, _/_, _%_, _^_, _≤_, _<_}
@@ -25,7 +25,7 @@ hex-join j zero v = rw (add-zero j, div-one v) (append-nil (hexDigits j v))
 hex-join j (suc k) v =
     rw (add-suc j k, pow-succ', ← div-div-eq-div-mul v 16 (16 ^ k), ← append-assoc, hex-join j k (v / 16))
 
--- the k low digits are those of the rest by 16 ^ k
+-- the k low digits are those of the remainder modulo 16 ^ k
 hex-low : (k low high : ℕ) → hexDigits k (low + 16 ^ k * high) ≡ hexDigits k low
 unfolding hexDigits
 hex-low zero low high = refl
@@ -47,7 +47,7 @@ hex-two v h = let high : v / 16 % 16 ≡ v / 16 = mod-eq-of-lt (omega arith) in 
 
 -- ---- decimal
 
--- more room changes nothing
+-- a higher limit on the number of digits changes nothing
 decimal-room : (f g v : ℕ) → v < f → v < g → decimalUpTo f v ≡ decimalUpTo g v
 unfolding decimalUpTo
 decimal-room zero g v p q = absurd (omega arith)
@@ -69,7 +69,7 @@ pub decimal-more : (v : ℕ) → 10 ≤ v → decimalDigits v ≡ decimalDigits 
 unfolding decimalDigits decimalUpTo
 decimal-more v h = rw (le-ltb v 10 h) (ap (λ (l : List ℕ). l ++ (48 + v % 10) ∷ []) (decimal-room v (suc (v / 10)) (v / 10) (omega arith) (omega arith)))
 
--- a number below 10 ^ k has at most k digits
+-- a number below 10 ^ (k + 1) has at most k + 1 digits
 pub decimal-most : (k v : ℕ) → v < 10 ^ suc k → length (decimalDigits v) ≤ suc k
 decimal-most zero v h = rw (decimal-small v h) (omega arith)
 decimal-most (suc k) v h =
@@ -80,9 +80,9 @@ decimal-most (suc k) v h =
     go true e rest = rw (decimal-small v (ltb-true v 10 e)) (omega arith)
     go false e rest = rw (decimal-more v (ltb-false v 10 e), length-append) (omega arith)
 
--- ---- what decimal digits say
+-- ---- what decimal digits mean
 
--- the number that decimal digits say, behind others that say n
+-- the number that decimal digits mean, after digits that mean n
 unfoldable pub readOn : ℕ → List ℕ → ℕ
 readOn n [] = n
 readOn n (d ∷ l) = readOn (10 * n + (d - 48)) l
@@ -106,7 +106,7 @@ pub decimal-read : (v : ℕ) → readOn 0 (decimalDigits v) ≡ v
 unfolding decimalDigits
 decimal-read v = read-up-to (suc v) v (omega arith)
 
--- ---- digits as a reader knows them
+-- ---- examples in plain digits
 
 0AF9 : hexDigits 4 0x0AF9 ≡ 48 ∷ 65 ∷ 70 ∷ 57 ∷ []
 unfolding hexDigits

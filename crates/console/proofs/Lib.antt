@@ -1,4 +1,4 @@
--- Laws of text's definitions, in reading order.
+-- Laws of console's definitions, in reading order.
 pub mod DigitsLaws
 pub mod WroteLaws
 pub mod RecordsLaws

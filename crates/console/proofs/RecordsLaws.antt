@@ -1,4 +1,4 @@
--- Laws of records: reads one after the other bring the whole records, then the stray bytes.
+-- Laws of records: reads in sequence return the whole records, then the stray bytes.
 use mathlib.Core.Path.{_≡_}
 use Prim.Native.Nat.{ℕ, _+_, _*_, _≤_, _<_}
 use native.Mathlib.Nat.{div-add-mod, mod-lt, mul-le-mul-left}
@@ -16,7 +16,7 @@ module _ (size bytes : ℕ) (some : 0 < size) where
   pub few-stray : strayBytes size bytes < size
   few-stray = mod-lt bytes some
 
-  -- each read up to the last whole record brings a whole one
+  -- each read up to the last whole record returns a whole one
   pub reads-whole : (k : ℕ) → k < wholeRecords size bytes → arrivalOf size (brought size bytes k) ≡ Whole
   reads-whole k h =
       let room : size * (k + 1) ≤ size * wholeRecords size bytes = mul-le-mul-left size (omega arith) in
@@ -24,7 +24,7 @@ module _ (size bytes : ℕ) (some : 0 < size) where
       let full : brought size bytes k ≡ size = omega arith in
       rw (full, ne-eqb size 0 (omega arith), le-ltb size size (omega arith))
 
-  -- and the read after it the stray bytes: a part of a record, or nothing
+  -- and the read after it returns the stray bytes: a part of a record, or nothing
   pub read-after : arrivalOf size (brought size bytes (wholeRecords size bytes)) ≡ (if eqb (strayBytes size bytes) 0 then End else Cut)
   read-after =
       let all = all-bytes in

@@ -1,4 +1,4 @@
--- Laws of writing into a line: one piece after the other.
+-- Laws of writing into a line, one piece after the other.
 use mathlib.Core.Path.{_≡_, sym, ap, _∙_}
 use Prim.Native.Nat.{ℕ, _+_, _≤_}
 use native.Mathlib.Nat.{add-assoc}
@@ -22,12 +22,12 @@ wrote-then {before} {at} {first} {middle} {between} {second} {next} {after} u w 
       ∙ sym (sets-append first second before at);
 }
 
--- the same piece by another name
+-- the same piece as an equal list
 pub wrote-as : {before : List ℕ} {at : ℕ} {text other : List ℕ} {next : ℕ} {after : List ℕ}
     → text ≡ other → Wrote before at text next after → Wrote before at other next after
 wrote-as e w = rw e at w
 
--- what a line begins with, once a piece is written
+-- the start of a line after a piece is written
 pub wrote-begin : {before : List ℕ} {at : ℕ} {text : List ℕ} {next : ℕ} {after : List ℕ}
     → Wrote before at text next after → next ≤ length before → take next after ≡ take at before ++ text
 wrote-begin {before} {at} {text} {next} {after} w h =
@@ -36,7 +36,7 @@ wrote-begin {before} {at} {text} {next} {after} w h =
     rw (w .line, sets-eq text before at (omega arith))
     (take-at (take at before ++ text) (drop (at + length text) before) next whole)
 
--- the written part lies in the line
+-- the written part is within the line
 pub wrote-begins : {before : List ℕ} {at : ℕ} {text : List ℕ} {next : ℕ} {after : List ℕ}
     → Wrote before at text next after → next ≤ length before → Begins next after
 wrote-begins {before} {at} {text} {next} {after} w h =

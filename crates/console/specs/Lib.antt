@@ -1,3 +1,3 @@
--- In reading order.
+-- The definitions of console, in reading order.
 pub mod Text
 pub mod Records

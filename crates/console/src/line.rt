@@ -5,12 +5,12 @@ ghost use mathlib.Core.List.{[], _∷_};
 ghost use lib.ListN.{length};
 ghost use Rattle.console.specs.Text.{hexDigit, hexDigits, decimalDigits, Wrote};
 
-// The digit 0, and the letter that is ten places before A.
+// The code of the digit 0, and the code ten places before that of the letter A.
 const DIGIT: u8 = 48;
 
 const LETTER: u8 = 55;
 
-// The bases, and the values of a byte.
+// The bases, and the number of values of a byte.
 const TEN: u8 = 10;
 
 const HEX: u8 = 16;
@@ -27,7 +27,7 @@ fn hex_digit(d: u8) -> u8
     if d < TEN { DIGIT + d } else { LETTER + d }
 }
 
-// The byte b, as a space or the end of the line.
+// The byte b, for example a space or the end of the line.
 pub fn put_byte(line: &mut [u8], at: usize, b: u8) -> usize
     requires { ⌜ at + 1 ≤ length (now line) ⌝ }
     ensures { λ r. ⌜ r ≡ at + 1 ⌝ }

@@ -1,4 +1,4 @@
--- A data transfer, a sector's access and a status read decided: from what the called functions ensure to what the model decides.
+-- How a data transfer, an access to one sector and a status read are decided: from the called functions' contracts to the model's decision.
 use mathlib.Core.Path.{_≡_, refl, sym, ap, _∙_}
 use mathlib.Core.Bool.{Bool, true, false}
 use mathlib.Core.List.{List, [], _∷_}
@@ -31,14 +31,14 @@ slot-pending (s ∷ slots) (suc p) z h = slot-pending slots p z (omega arith)
 
 module _ (d e f : device.Device.Device) (p : ℕ) (dir : Direction) (count n : ℕ) (t : Transfer) (m : List ℕ) (k : code.Decision.Decision)
     (pends : t ≡ getD (pendingOf (d .slots)) p none) (judged : n ≡ firstFailed (dataChecks (d .locked) dir count t)) (stop : Changed interrupt d e) (coded : Changed (withCode n) e f) where
-  -- what is decided where the first check that fails has the number c
+  -- what is decided if the first check that fails has the number c
   abbrev choice : ℕ → Transfer → Device → Decision
   choice c u x = ifPassed c (decision (withCode 0x0000 (interrupt x)) (good 0 0) (transferEffect u (dataOf m))) (decision (withCode c (interrupt x)) (refusedWith c) nothing)
 
   abbrev rule : Device → Decision
   rule x = decideData dir count (pendingFor p x) (dataOf m) (interrupt x)
 
-  -- stopping a fill changes nothing that the checks see
+  -- stopping a fill changes nothing that the checks read
   chosen : (h : List ℕ) → choice n t (asDevice d h) ≡ rule (asDevice d h)
   unfolding decideData
   chosen h =

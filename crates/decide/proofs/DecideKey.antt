@@ -1,4 +1,4 @@
--- A key decided: from what the called functions ensure to what the model decides.
+-- How a key is decided: from the contracts of the called functions to the model's decision.
 use mathlib.Core.Path.{_≡_, sym, ap, _∙_}
 use mathlib.Core.List.{List}
 use Prim.Native.Nat.{ℕ, _+_}
@@ -58,7 +58,7 @@ module _ (p : ℕ) (x : Device) (k : List ℕ) where
   verdict-refused n e = sym (ap (λ (v : Verdict). decideVerdict v p (withKey (word k 0) (word k 1) x)) e)
 
 module _ (a : List ℕ) (p : ℕ) (d e : device.Device.Device) (asked : key.Verdict.Verdict) where
-  -- the key, as it is read and as the model names it
+  -- the key, as the code reads it and as the model names it
   abbrev bytes : List ℕ
   bytes = part a (slotPlace p + registersSize) sectorSize
 
@@ -66,7 +66,7 @@ module _ (a : List ℕ) (p : ℕ) (d e : device.Device.Device) (asked : key.Verd
   sector = dataOf (slotBytes p a)
 
   module _ (words : Changed (recordedBy bytes) d e) (read : (x : Device) → x .locked ≡ d .locked → x .visible ≡ d .visible → asVerdict asked (patternSector bytes) ≡ judgeKey x bytes) where
-    -- stopping a fill changes nothing that a key's checks see
+    -- stopping a fill changes nothing that a key's checks read
     judged : (h : List ℕ) → judgeKey (interrupt (asDevice d h)) sector ≡ asVerdict asked (patternSector sector)
     judged h =
         let same = interrupt-kept (asDevice d h) in

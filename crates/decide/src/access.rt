@@ -1,4 +1,4 @@
-// The data transfer (E1h), and the access to one sector (24h and 34h).
+// How the data transfer (E1h) and the access to one sector (24h and 34h) are decided.
 use decision::Decision;
 use decision::Sending;
 use decision::Writing;
@@ -30,7 +30,7 @@ fn pending_of(d: Device, p: usize) -> Transfer
     s.pending
 }
 
-// A transfer that is completed: the table is sent, or a fill begins with the sector that came.
+// A completed transfer: the table is sent, or a fill begins with the sector that came.
 fn completed(d: Device, t: Transfer) -> Decision
     ensures { λ k. ⌜ ((m : List ℕ) → Decided m (λ x. decision x (good 0 0) (transferEffect (asTransfer t) (dataOf m))) d k) ⌝ }
 {
@@ -41,7 +41,7 @@ fn completed(d: Device, t: Transfer) -> Decision
     }
 }
 
-// "E1h is judged": the code is stored, 0000h where the transfer is completed.
+// "E1h is judged": the code is stored, 0000h if the transfer is completed.
 pub fn decide_data(d: Device, p: usize, dir: Direction, count: u16) -> Decision
     requires { ⌜ (p < portCount) × (length (d .slots) ≡ portCount) ⌝ }
     ensures { λ k. ⌜ ((m : List ℕ) → Decided m (λ x. decideData (asDirection dir) count (pendingFor p x) (dataOf m) (interrupt x)) d k) ⌝ }
@@ -56,7 +56,7 @@ pub fn decide_data(d: Device, p: usize, dir: Direction, count: u16) -> Decision
     completed(e, t)
 }
 
-// The sector read, or written.
+// An access that is done: the sector is read, or written.
 fn moved(d: Device, dir: Direction, lba: u64) -> Decision
     ensures { λ k. ⌜ ((m : List ℕ) → Decided m (λ x. decision x (good 0 0) (sectorEffect (asDirection dir) lba (dataOf m))) d k) ⌝ }
 {

@@ -1,4 +1,4 @@
-// Any request.
+// How any request is decided.
 use crate::access::decide_data;
 use crate::access::decide_sector;
 use crate::key_sector::decide_key;
@@ -44,7 +44,7 @@ fn decide_other(d: Device) -> Decision
     )
 }
 
-// The request q that slot p of the private area holds, on the device d.
+// Decides the request q, which slot p of the private area holds, for the device d.
 pub fn decide(q: Request, area: &[u8], p: usize, d: Device) -> Decision
     requires { ⌜ (length (now area) ≡ privateSize) × (p < portCount) × (length (d .slots) ≡ portCount) × (1 ≤ d .visible) ⌝ }
     ensures { λ k. ⌜ Decided (slotBytes p (now (area .entry))) (decideRequest (asRequest q) (record { port = p }) (slotBytes p (now (area .entry)))) d k ⌝ }

@@ -1,4 +1,4 @@
-// The key sector, decided.
+// How the key sector is decided.
 use decision::Decision;
 use decision::replied;
 use key::Verdict;

@@ -1,4 +1,4 @@
--- From what a decision says to what a rule of the model decides.
+-- From what a decision means to what a rule of the model decides.
 use mathlib.Core.Path.{_≡_, ap, _∙_}
 use mathlib.Core.List.{List}
 use Prim.Native.Nat.{ℕ}

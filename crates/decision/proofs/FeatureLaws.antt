@@ -1,4 +1,4 @@
--- A feature set: the device and the history after it.
+-- The device and the history after a feature is set.
 use mathlib.Core.Path.{_≡_, _∙_}
 use mathlib.Core.Bool.{Bool}
 use mathlib.Core.List.{List}

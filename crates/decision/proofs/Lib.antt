@@ -1,3 +1,3 @@
--- Laws of decisions: any (DecidedLaws), and a feature set (FeatureLaws).
+-- Laws of decisions: of any decision (DecidedLaws), and of one that sets a feature (FeatureLaws).
 pub mod DecidedLaws
 pub mod FeatureLaws

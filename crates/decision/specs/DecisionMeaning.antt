@@ -1,4 +1,4 @@
--- What a decision's struct says, in the model's words. It holds numbers only: the slot's bytes m and the record's history are beside it.
+-- What a decision's struct means in the model. It holds only numbers: the slot's bytes m and the record's history are given separately.
 use mathlib.Core.Path.{_≡_}
 use mathlib.Core.Bool.{Bool, false}
 use mathlib.Core.List.{List}
@@ -33,14 +33,14 @@ asEffect k m = record { writes = asWriting (k .writes) m; sends = asSending (k .
 abbrev pub asDecision : code.Decision.Decision → List ℕ → List ℕ → Decision
 asDecision k m h = decision (asDevice (k .device) (historyAfter (k .empties) h)) (asRegisters (k .reply)) (asEffect k m)
 
--- k says this device, these registers and this effect, and leaves the history
+-- k means this device, these registers and this effect, and does not empty the history
 pub record Says (d : device.Device.Device) (q : Registers) (e : List ℕ → Effect) (k : code.Decision.Decision) : Type 0 where
   pub device : k .device ≡ d
   pub registers : asRegisters (k .reply) ≡ q
   pub effect : (m : List ℕ) → asEffect k m ≡ e m
   pub history : k .empties ≡ false
 
--- k says what a rule decides of the device d, whatever the history; the stages of the slots stay
+-- k means what a rule decides for the device d, whatever the history; the stages of the slots are unchanged
 pub record Decided (m : List ℕ) (rule : Device → Decision) (d : device.Device.Device) (k : code.Decision.Decision) : Type 0 where
   pub same : (h : List ℕ) → asDecision k m h ≡ rule (asDevice d h)
   pub stages : stagesOf (k .device .slots) ≡ stagesOf (d .slots)

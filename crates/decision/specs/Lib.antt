@@ -1,2 +1,2 @@
--- What a decision says.
+-- What a decision means.
 pub mod DecisionMeaning

@@ -1,4 +1,4 @@
-// The desk program: records of one byte and a mailbox on standard input, served on a fresh disk of 64 sectors, a line for each.
+// The desk program: reads records of one byte and a mailbox from standard input, serves them on one fresh 64-sector disk, prints a line for each.
 use console::Arrival;
 use layout::MAILBOX;
 use layout::PRIVATE;
@@ -16,7 +16,7 @@ const DISK: usize = 64 * SECTOR;
 
 const LINE: usize = 64;
 
-// Serves record `number` and writes its line. Answers whether to go on.
+// Serves record `number` and writes its line. Returns whether to continue.
 fn answer(
     device: &mut [u8],
     area: &mut [u8],
@@ -33,7 +33,7 @@ fn answer(
     io::write_all(STDOUT_FILENO, &line[..end])
 }
 
-// Reads record `number` and serves it. Answers whether to go on.
+// Reads record `number` and serves it. Returns whether to continue.
 fn next(device: &mut [u8], area: &mut [u8], disk: &mut [u8], number: u64) -> bool
     requires { ⌜ length (now device) ≡ 1024 ⌝ }
 {

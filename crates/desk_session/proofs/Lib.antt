@@ -1,2 +1,2 @@
--- In reading order.
+-- Laws of one record of a session.
 pub mod TurnLaws

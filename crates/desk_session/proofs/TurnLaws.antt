@@ -24,7 +24,7 @@ count-within r a disk n = go (firstFailed (workChecks r a disk))
 pub result-count : (result answer count : ℕ) → result ≡ workResult answer count → count < 4294967296 → result % 4294967296 ≡ count
 result-count result answer count e h = rw e (omega arith)
 
--- the line is the report of what the buffers then hold
+-- the line is the report of what the buffers hold afterwards
 pub line-turned : (number code : ℕ) {r a disk m : List ℕ} {n count : ℕ} {newRecord newArea newDisk newMailbox : List ℕ}
     → Turned r a disk m n count newRecord newArea newDisk newMailbox
     → code ≡ decode newRecord .device .command .code

@@ -1,3 +1,3 @@
--- One record of a session.
+-- The definitions for one record of a session, in reading order.
 pub mod Report
 pub mod Turn

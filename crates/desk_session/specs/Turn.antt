@@ -1,4 +1,4 @@
--- A mailbox of port 0 taken, served and given, then worked: the entries' definitions one after the other.
+-- One turn: a mailbox of port 0 is taken, served and given, then work is called. It is the entries' definitions one after the other.
 use mathlib.Core.Path.{_≡_}
 use mathlib.Core.List.{List}
 use Prim.Native.Nat.{ℕ}

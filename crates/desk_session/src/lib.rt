@@ -1,4 +1,4 @@
-// One record of a session of port 0: the line that reports it (report.rt); its mailbox taken, served and given, then work (turns.rt).
+// One record of a session of port 0: its report line (report.rt); its mailbox is taken, served and given, then work is called (turns.rt).
 mod report;
 mod turns;
 

@@ -1,4 +1,4 @@
-// The lines of output.
+// The report line of a record.
 use console::put_byte;
 use console::put_decimal;
 use console::put_hex2;
@@ -9,7 +9,7 @@ ghost use lib.ListN.{length};
 ghost use Rattle.console.specs.Text.{Wrote};
 ghost use Rattle.desk_session.specs.Report.{codes, report};
 
-// Status, Error and stored code, a space before each and one behind: "capital hex of two, two and four digits".
+// Status, Error and stored code, with a space before each and one after the last: "capital hex of two, two and four digits".
 fn put_codes(line: &mut [u8], at: usize, status: u8, error: u8, code: u16) -> usize
     requires { ⌜ at + 12 ≤ length (now line) ⌝ }
     ensures { λ r. ⌜ r ≡ at + 12 ⌝ }

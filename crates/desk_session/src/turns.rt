@@ -1,4 +1,4 @@
-// A mailbox of port 0 taken, served and given, then worked, and the line that reports it.
+// One turn: a mailbox of port 0 is taken, served and given, then work is called; and the line that reports it.
 use crate::report::put_report;
 use layout::ata;
 use sct_disk::sct_give;
@@ -12,10 +12,10 @@ ghost use Rattle.store.specs.Areas.{recordSize};
 ghost use Rattle.console.specs.Text.{Begins, Wrote};
 ghost use Rattle.desk_session.specs.Turn.{Turned, served, given, worked, lineOf};
 
-// The result of a work has the answer in bits 32 to 63, the sectors written below.
+// The result of a work has the answer in bits 32 to 63, the sectors written in bits 0 to 31.
 const ANSWER: u64 = 4294967296;
 
-// "Each is taken, served, given, then worked." Answers how many sectors the work wrote.
+// "Each is taken, served, given, then worked." Returns how many sectors the work wrote.
 fn exchange(device: &mut [u8], area: &mut [u8], disk: &mut [u8], mailbox: &mut [u8], n: u8) -> u64
     ensures { λ count. ⌜ Turned (now (device .entry)) (now (area .entry)) (now (disk .entry)) (now (mailbox .entry)) n count (now (device .exit)) (now (area .exit)) (now (disk .exit)) (now (mailbox .exit)) ⌝ }
 {
@@ -26,7 +26,7 @@ fn exchange(device: &mut [u8], area: &mut [u8], disk: &mut [u8], mailbox: &mut [
     result % ANSWER
 }
 
-// Record `number`, of work count and mailbox: writes its line and answers how long it is.
+// Processes record `number`, a work count and a mailbox: writes its line and returns the line's length.
 pub fn turn(
     line: &mut [u8],
     number: u64,

@@ -1,4 +1,4 @@
--- What a changed struct says of the record: the contents with the device changed; changes one after the other.
+-- What a changed struct means: the record's contents with the device changed; one change after another.
 use mathlib.Core.Path.{_≡_, refl, sym, ap, _∙_}
 use mathlib.Core.List.{List}
 use Prim.Native.Nat.{ℕ}
@@ -10,7 +10,7 @@ use Rattle.record.specs.declared.device as code
 use Rattle.record.specs.DeviceMeaning.{asContents}
 use Rattle.device_update.specs.Change.{Changed}
 
--- a struct that says a record's contents has four slots
+-- a struct that means a record's contents has four slots
 pub four-slots : (d : code.Device.Device) (h r : List ℕ) → asContents d h ≡ decode r → length (d .slots) ≡ 4
 unfolding decode
 four-slots d h r e = sym (length-map (d .slots) _) ∙ ap (λ (c : Contents). length (c .stages)) e
@@ -21,11 +21,11 @@ changed-contents rule d e h c says change =
     (λ i. record { device = change .device h i; stages = change .stages i })
     ∙ ap (λ (x : Contents). withDevice (rule (x .device)) x) says
 
--- a struct unchanged
+-- an unchanged struct
 pub unchanged : (d : code.Device.Device) → Changed (λ x. x) d d
 unchanged d = record { device = λ h. refl; stages = refl; four = refl }
 
--- a rule after a rule
+-- one rule after another
 pub changed-then : (f g : Device → Device) (d e x : code.Device.Device) → Changed f d e → Changed g e x → Changed (λ y. g (f y)) d x
 changed-then f g d e x first second =
     record {

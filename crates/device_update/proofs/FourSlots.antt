@@ -1,4 +1,4 @@
--- A slot with another pending transfer, in the array of four.
+-- A slot with a new pending transfer, in the array of four.
 use mathlib.Core.Path.{_≡_, refl, ap}
 use mathlib.Core.List.{List, [], _∷_, map}
 use Prim.Native.Nat.{ℕ, zero, suc}
@@ -11,7 +11,7 @@ use Rattle.record.specs.declared.device as code
 use Rattle.record.specs.DeviceMeaning.{asStage, asTransfer, asDevice}
 use Rattle.device_update.specs.Change.{Changed}
 
--- a map of a list with one element changed
+-- a map over a list with one element changed
 map-set : {A B : Type 0} (f : A → B) (l : List A) (i : ℕ) (y : A) → map f (set l i y) ≡ set (map f l) i (f y)
 map-set f [] i y = refl
 map-set f (x ∷ l) zero y = refl

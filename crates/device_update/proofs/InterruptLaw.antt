@@ -1,4 +1,4 @@
--- A struct with the fill stopped and nothing pending says the interrupted device.
+-- A struct with the fill stopped and nothing pending means the interrupted device.
 use mathlib.Core.Path.{_≡_, refl, sym, ap, _∙_}
 use mathlib.Core.List.{List, [], _∷_}
 use Prim.Native.Nat.{ℕ}
@@ -21,7 +21,7 @@ interrupt-is d idle e =
     ∙ ap (λ (f : Fill). withCommand (record { code = d .command .code; action = d .command .action; function = d .command .function; fill = f; pending = nothingPending }) d) e
 interrupt-is d (running first next end) e = rw e
 
--- a slot whose stage stays and whose transfer is gone
+-- a slot whose stage is unchanged and whose transfer is dropped
 abbrev pub Cleared : code.Slot.Slot → code.Slot.Slot → Type 0
 Cleared s r = (asStage (r .stage) ≡ asStage (s .stage)) × (asTransfer (r .pending) ≡ none)
 
@@ -37,7 +37,7 @@ slots-cleared (s ∷ t ∷ u ∷ q ∷ []) z a b e f h w x y v =
     (λ i. w .0 i ∷ x .0 i ∷ y .0 i ∷ v .0 i ∷ [], λ i. w .1 i ∷ x .1 i ∷ y .1 i ∷ v .1 i ∷ [])
 slots-cleared (s ∷ t ∷ u ∷ q ∷ o ∷ l) z a b e f h w x y v = absurd (omega arith)
 
--- the struct that the code makes
+-- the struct that the code builds
 abbrev pub interruptedStruct : code.Device.Device → ℕ → List code.Slot.Slot → code.Device.Device
 interruptedStruct d n slots =
     record {

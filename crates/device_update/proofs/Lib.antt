@@ -1,4 +1,4 @@
--- Laws of structs that the functions change.
+-- Laws of the structs that the functions change, in reading order.
 pub mod ChangeLaws
 pub mod InterruptLaw
 pub mod FourSlots

@@ -1,4 +1,4 @@
-// The last command: its code and words, its fill, and what is pending.
+// How the last command changes: its code and words, its fill, and what is pending.
 use layout::sct;
 use record::Command;
 use record::Device;
@@ -69,7 +69,7 @@ pub fn interrupt(d: Device) -> Device
     }
 }
 
-// The device with another stored code.
+// The device with a new stored code.
 pub fn with_code(d: Device, code: u16) -> Device
     ensures { λ r. ⌜ Changed (withCode code) d r ⌝ }
 {
@@ -108,7 +108,7 @@ pub fn start_fill(d: Device, first: u64, end: u64) -> Device
     e
 }
 
-// The device after a sector of its fill, with `next` the sector behind it: the flag "is cleared by any sector written"; "at end the fill is over".
+// The device after a sector of its fill; `next` is the sector after it: the flag "is cleared by any sector written"; "at end the fill is over".
 pub fn sector_written(d: Device, first: u64, next: u64, end: u64) -> Device
     ensures { λ r. ⌜ Changed (λ x. advanced first next end (withInitialized false x)) d r ⌝ }
 {
@@ -145,7 +145,7 @@ pub fn with_flag_cleared(d: Device) -> Device
     written
 }
 
-// The device with a transfer pending for the port p.
+// The device with a transfer pending for port p.
 pub fn with_pending(d: Device, p: usize, t: Transfer) -> Device
     requires { ⌜ (p < portCount) × (length (d .slots) ≡ portCount) ⌝ }
     ensures { λ r. ⌜ Changed (λ x. withPending (set (x .command .pending) p (asTransfer t)) x) d r ⌝ }

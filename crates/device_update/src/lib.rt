@@ -1,4 +1,4 @@
-// How the device changes, by value: a fill stopped, started and moved on (command.rt); lock and visible size (owner.rt).
+// How the device changes, by value: a fill stopped, started and advanced (command.rt); lock and visible size (owner.rt).
 mod command;
 mod owner;
 

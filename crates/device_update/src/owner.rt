@@ -1,4 +1,4 @@
-// Lock, unlock and visible size.
+// How lock, unlock and set V change the device.
 use crate::command::interrupt;
 use record::Device;
 ghost use mathlib.Core.Path.{_≡_};

@@ -1,4 +1,4 @@
--- The record's history, emptied where asked.
+-- The record's history, emptied if asked for.
 use mathlib.Core.Path.{_≡_, refl}
 use mathlib.Core.Bool.{Bool, true, false}
 use mathlib.Core.List.{List}

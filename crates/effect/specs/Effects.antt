@@ -1,4 +1,4 @@
--- What is written, in its parts, and what writing and sending need.
+-- What is written, in its parts, and what a write and a send require.
 use Prim.Native.Nat.{ℕ, _+_, _*_, _≤_}
 use mathlib.Core.Bool.{false}
 use mathlib.Core.List.{List}
@@ -12,7 +12,7 @@ use Rattle.decision.specs.declared.decision as code
 use Rattle.decision.specs.declared.decision.Writing.the-variants as writes
 use Rattle.decision.specs.declared.decision.Sending.the-variants as sends
 
--- the device and the sectors after what is written: `written` of the model has both
+-- the device, and the sectors, after what is written: the model's `written` has both
 abbrev pub deviceAfter : Writing → Device → Device
 deviceAfter noWrite d = d
 deviceAfter (oneSector lba sector) d = withInitialized false d
@@ -23,7 +23,7 @@ sectorsAfter noWrite sectors = sectors
 sectorsAfter (oneSector lba sector) sectors = sets sectors (sectorSize * lba) sector
 sectorsAfter (newFill first end sector) sectors = sectors
 
--- a sector that is written, or read, lies within a run of bytes
+-- a sector that is written or read is within a run of bytes
 abbrev pub Within : ℕ → ℕ → Type 0
 Within size lba = sectorSize * lba + sectorSize ≤ size
 

@@ -1,4 +1,4 @@
-// The record with a slot answered: the history emptied where asked, the device written, the stage.
+// The record with a slot answered: the history is emptied if asked for, then the device and the stage are written.
 use record::Device;
 use record::Stage;
 ghost use mathlib.Core.Path.{_≡_};
@@ -14,7 +14,7 @@ ghost use Rattle.store.specs.Entries.{withStage};
 ghost use Rattle.record.specs.DeviceMeaning.{asContents, historyOf, historyAfter};
 ghost use Rattle.record_write.specs.Framed.{Framed};
 
-// Empties the record's history, where asked.
+// Empties the record's history, if asked for.
 fn empty_if(device: &mut [u8], asked: bool)
     requires { ⌜ Framed (now device) ⌝ }
     ensures { λ _. ⌜ now (device .exit) ≡ (if asked then sets (now (device .entry)) (headSize + tableHeadSize) emptyHistory else now (device .entry)) ⌝ }

@@ -1,4 +1,4 @@
-// What a decision leaves, each on its buffer: what is written (writes.rt), the record with the slot answered (answered.rt), and the reply
+// The effects of a decision, each on its buffer: what is written (writes.rt), the record with the slot answered (answered.rt), and the reply
 // (sends.rt).
 mod answered;
 mod sends;

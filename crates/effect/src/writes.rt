@@ -1,4 +1,4 @@
-// What a decision writes: a sector on the disk, or the sector of a fill in the private area; and the device after it.
+// What a decision writes: a sector on the disk, or the sector of a fill in the private area; and the device afterwards.
 use decision::Writing;
 use layout::MAILBOX;
 use layout::REGISTERS;
@@ -33,7 +33,7 @@ fn write_sector(area: &[u8], disk: &mut [u8], p: usize, lba: u64)
     );
 }
 
-// Writes what is to be written of slot p.
+// Writes what is to be written from slot p.
 pub fn write(area: &mut [u8], disk: &mut [u8], p: usize, writes: Writing)
     requires { ⌜ (length (now area) ≡ privateSize) × (p < portCount) × WritesWithin (length (now disk)) writes ⌝ }
     ensures area { λ _. ⌜ now (area .exit) ≡ withFillSector (asWriting writes (slotBytes p (now (area .entry)))) (now (area .entry)) ⌝ }
@@ -47,7 +47,7 @@ pub fn write(area: &mut [u8], disk: &mut [u8], p: usize, writes: Writing)
     }
 }
 
-// The device after what was written: the flag "is cleared by any sector written"; a fill that begins runs.
+// The device after the write: the flag "is cleared by any sector written"; a fill that begins is running.
 pub fn device_after(d: Device, writes: Writing) -> Device
     ensures { λ e. ⌜ ((m : List ℕ) → Changed (deviceAfter (asWriting writes m)) d e) ⌝ }
 {

@@ -1,3 +1,3 @@
--- In reading order.
+-- Laws of the fill on the bytes, in reading order.
 pub mod SectorLaws
 pub mod StepsLaws

@@ -1,4 +1,4 @@
--- Where the bytes of a fill's sector stand in the private area.
+-- Where the bytes of a fill's sector are in the private area.
 use mathlib.Core.Path.{_≡_, sym, ap, _∙_}
 use Prim.Native.Nat.{ℕ, _+_, _≤_}
 use native.Mathlib.Omega.{arith}

@@ -1,4 +1,4 @@
--- A fill worked off: the definition's sector steps are the device moved on and the sectors written one behind the other.
+-- A fill advanced by work: the definition's sector steps equal one change of the device and the sectors written one after the other.
 use mathlib.Core.Path.{_≡_, refl, sym, ap, subst, _∙_}
 use mathlib.Core.Bool.{Bool, true, false}
 use Prim.Native.Nat.{ℕ, _+_, _*_, _-_, _≤_, _<_}
@@ -52,7 +52,7 @@ module _ (k : ℕ) (d : code.Device.Device) (some : k ≡ 0 → ⊥) where
         four = c .four;
       }
 
--- what is left of a running fill bounds the sectors
+-- what is left of a running fill limits the number of sectors
 pub left-bounds : (f : Fill) (k first next end : ℕ) → f ≡ running first next end → k ≤ remaining f → k ≤ end - next
 left-bounds f k first next end e h = subst (λ (g : Fill). k ≤ remaining g) e h
 
@@ -63,7 +63,7 @@ pub count-left : (n : ℕ) (f : Fill) → workCount n f ≤ remaining f
 unfolding workCount
 count-left n f = omega arith
 
--- k sector steps, where as many are left
+-- k sector steps, if that many are left
 module _ (sector : List ℕ) (v : Volume) (whole : length sector ≡ sectorSize) where
   abbrev fill : Fill
   fill = v .device .command .fill
@@ -97,7 +97,7 @@ module _ (sector : List ℕ) (v : Volume) (whole : length sector ≡ sectorSize)
 
 -- ---- on the bytes
 
--- the sectors that a budget allows lie within the visible disk: "first ≤ next < end ≤ V"
+-- the sectors that a budget allows are within the visible disk: "first ≤ next < end ≤ V"
 pub sectors-fit : (n : ℕ) (f : Fill) (visible : ℕ) → FillValid visible f → nextSector f + workCount n f ≤ visible
 unfolding workCount
 sectors-fit n idle visible v = omega arith
@@ -135,7 +135,7 @@ module _ (r a disk : List ℕ) (n k : ℕ) (d e : code.Device.Device) (says : as
 
 -- ---- the hidden sectors
 
--- THE LAW of the hidden sectors: work on the visible part, and the hidden bytes behind it, are work on the whole disk
+-- THE LAW of the hidden sectors: work on the visible part, followed by the hidden bytes, is work on the whole disk
 module _ (r a visible hidden : List ℕ) (n : ℕ) (whole : length a ≡ privateSize) where
   abbrev part-of : List ℕ → Volume
   part-of disk = record { device = decode r .device; disk = record { sectors = disk } }

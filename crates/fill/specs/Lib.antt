@@ -1,2 +1,2 @@
--- The fill after some of its sectors.
+-- The definition of the fill after some of its sectors.
 pub mod Moved

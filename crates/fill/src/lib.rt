@@ -1,4 +1,4 @@
-// The background fill on the bytes: the sector that it writes (sector.rt), and its sectors worked off under a budget (steps.rt).
+// The background fill on the bytes: the sector that it writes (sector.rt), and how it advances under a budget (steps.rt).
 mod sector;
 mod steps;
 

@@ -14,7 +14,7 @@ ghost use Rattle.model.specs.Key.{patternSector};
 ghost use Rattle.store.specs.Areas.{fillPlace, privateSize};
 ghost use Rattle.store.specs.Store.{slotBytes};
 
-// The key's pattern, from the slot's first byte.
+// The offset of the key's pattern from the slot's first byte.
 const PATTERN_AT: usize = REGISTERS + sct::PATTERN_AT;
 
 // "bytes 20-23 repeated 128 times", of the key in slot p.

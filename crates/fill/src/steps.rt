@@ -1,4 +1,4 @@
-// A running fill worked off: how many sectors a budget allows, the sectors written, and the device behind them.
+// How a running fill advances: how many sectors a budget allows, the sectors written, and the device after them.
 use layout::FILL_AT;
 use layout::SECTOR;
 use layout::SECTOR_U64;
@@ -21,14 +21,14 @@ ghost use Rattle.store.specs.Entries.{workDone};
 ghost use Rattle.device_update.specs.Change.{Changed};
 ghost use Rattle.fill.specs.Moved.{movedOn};
 
-// a - b, and 0 where b is greater.
+// a - b, and 0 if b is greater.
 fn difference(a: u64, b: u64) -> u64
     ensures { λ r. ⌜ r ≡ a - b ⌝ }
 {
     if b < a { a - b } else { 0 }
 }
 
-// The sectors that are left of a fill.
+// The number of sectors that are left of a fill.
 fn remaining(fill: Fill) -> u64
     ensures { λ r. ⌜ r ≡ remaining (asFill fill) ⌝ }
 {

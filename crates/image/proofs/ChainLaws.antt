@@ -1,4 +1,4 @@
--- One turn of the chain, as the code makes it, and the whole chain as readability.
+-- One step along the chain, as the code makes it, and readability as the test of the whole chain.
 use mathlib.Core.Path.{_≡_, sym, ap, _∙_}
 use mathlib.Core.Bool.{Bool, true, false, _&&_}
 use Prim.Native.Nat.{ℕ, zero, suc, _+_, _-_, _*_, _%_, _≤_, _<_}
@@ -16,7 +16,7 @@ module _ (latest : Saved) (image : List ℕ) where
   unfolding chainHolds
   chain-none k at e = ap (λ (n : ℕ). chainHolds latest image n at) (sym e)
 
-  -- entry k, and the chain from the place that its trailer names
+  -- entry k, and the chain from the place that its trailer points to
   chain-turn : (k at : ℕ) → 1 ≤ k
       → chainHolds latest image k at ≡ (eqb at (trailerPlace k) && entryHolds latest image k && chainHolds latest image (k - 1) (get 4 image (at + linkPlace)))
   unfolding chainHolds
@@ -52,7 +52,7 @@ module _ (image : List ℕ) (used : ℕ) where
   unfolding readable
   readable-empty e = ap (λ (n : ℕ). readable image n) (sym e)
 
-  -- the answer of a chain test that knows only the newest entry's N
+  -- the answer of a chain test that gets only the newest entry's N
   pub readable-chain : used % entrySize ≡ 0 → used ≤ entrySize * entryLimit → 1 ≤ used → (answer : Bool)
       → ((latest : Saved) → latest .native ≡ savedAt image (used - entrySize) .native → answer ≡ chainHolds latest image (entries used) (used - trailerSize))
       → answer ≡ readable image used

@@ -1,4 +1,4 @@
--- The tests of an entry in place say that it holds, exactly.
+-- The tests of an entry in place are equivalent to the definition of an entry that holds.
 use mathlib.Core.Path.{_≡_, refl, sym, ap, ap₂, _∙_, subst}
 use mathlib.Core.Bool.{true, false, not, _&&_, _||_}
 use Prim.Native.Nat.{ℕ, zero, suc, _+_, _-_, _*_, _≤_, _<_}
@@ -33,7 +33,7 @@ use Rattle.image.specs.EntryTests.{bodyInPlace, trailerInPlace}
 
 -- ---- a body's head
 
--- a byte below 8 says its three options
+-- a byte below 8 is the encoding of its three options
 options-exact : (n : ℕ) → n ≤ 7 → n ≡ bit (hasBit 1 n) + 2 * bit (hasBit 2 n) + 4 * bit (hasBit 4 n)
 options-exact zero h = refl
 options-exact (suc zero) h = refl
@@ -48,7 +48,7 @@ options-exact (suc (suc (suc (suc (suc (suc (suc (suc n)))))))) h = absurd (omeg
 abbrev zerosSize : ℕ
 zerosSize = headSize - zerosPlace
 
--- in the head the zeros are what is in no field
+-- the zeros of the head are the bytes that belong to no field
 head-gap : (s : Saved) → below headSize (λ i. not (outside (headFields s) i) || leb zerosPlace i) ≡ true
 head-gap s = refl
 
@@ -198,7 +198,7 @@ module _ (image : List ℕ) (at : ℕ) (b : Bytes image) (fits : at + bodySize �
       interval-place : at + (headSize + tableIntervalPlace) ≡ at + headSize + tableIntervalPlace
       interval-place = omega arith
 
-  -- THEOREM: a body holds where it passes the tests in place.
+  -- THEOREM: a body holds exactly if it passes the tests in place.
   pub body-in-place : bodyHolds (part image at bodySize) ≡ bodyInPlace image at
   unfolding bodyHolds
   body-in-place =
@@ -251,7 +251,7 @@ module _ (image : List ℕ) (at k : ℕ) (b : Bytes image) (fits : at + trailerS
       rw (eq-eqb (get 4 image at) bodySize (t .size), eq-eqb (get 4 image (at + linkPlace)) (previousPlace k) (t .before), eq-eqb (get 4 image (at + numberPlace)) k (t .named), t .letters)
       (same-refl tag)
 
-  -- every byte in front of the letters is in a field
+  -- every byte before the letters belongs to a field
   none-outside : below tagPlace (λ i. not (outside (trailerFields k) i) || false) ≡ true
   none-outside = refl
 
@@ -291,7 +291,7 @@ module _ (image : List ℕ) (at k : ℕ) (b : Bytes image) (fits : at + trailerS
             ∙ part-append-right (form tagPlace (trailerFields k)) tag tagPlace 4 (length-form tagPlace (trailerFields k)) refl;
       }
 
-  -- THEOREM: a trailer is the one of entry k where it passes the tests in place.
+  -- THEOREM: a trailer is the one of entry k exactly if it passes the tests in place.
   pub trailer-in-place : same here (trailerBytes k) ≡ trailerInPlace image at k
   trailer-in-place =
       tests-same (same here (trailerBytes k)) (trailerInPlace image at k)
@@ -300,7 +300,7 @@ module _ (image : List ℕ) (at k : ℕ) (b : Bytes image) (fits : at + trailerS
 
 -- ---- an entry
 
--- THEOREM: entry k holds where its body and its trailer pass the tests in place and it is alike the newest.
+-- THEOREM: entry k holds exactly if its body and its trailer pass the tests in place and it is like the newest.
 pub entry-in-place : (latest : Saved) (image : List ℕ) (at k : ℕ) → Bytes image → 1 ≤ k → k ≤ entryLimit → at ≡ trailerPlace k → entrySize * k ≤ length image
     → (bodyInPlace image (at - bodySize) && alike latest (savedAt image (at - bodySize)) && trailerInPlace image at k) ≡ entryHolds latest image k
 unfolding entryHolds

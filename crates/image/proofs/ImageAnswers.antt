@@ -1,4 +1,4 @@
--- The answers to an image, exit by exit.
+-- The answers to an image, one law for each exit of the code.
 use mathlib.Core.Path.{_≡_, refl, sym, ap}
 use mathlib.Core.Bool.{Bool, true, false, _&&_}
 use Prim.Native.Nat.{ℕ, _+_, _-_, _/_, _≤_, _<_}
@@ -39,7 +39,7 @@ room-left image used h = ap (λ (t : Bool). ltb (used / entrySize) entryLimit &&
     back : leb (used + entrySize) (length image) ≡ true → leb entrySize (length image - used) ≡ true
     back e = let le = leb-true (used + entrySize) (length image) e in le-leb entrySize (length image - used) (omega arith)
 
--- ---- a save is refused as a reading is, and then for want of room
+-- ---- a save is refused as a read is, and then for lack of room
 
 earlier : (a b c t : Bool) → (firstFailed ((a, 2) ∷ (b, 6) ∷ (c, 7) ∷ []) ≡ 0 → ⊥)
     → firstFailed ((a, 2) ∷ (b, 6) ∷ (c, 7) ∷ []) ≡ firstFailed ((a, 2) ∷ (b, 6) ∷ (c, 7) ∷ (t, 8) ∷ [])
@@ -62,7 +62,7 @@ module _ (native : ℕ) (image : List ℕ) (used : ℕ) where
   pub read-bad : used ≤ length image → readable image used ≡ false → 6 ≡ firstFailed (imageChecks native image used)
   read-bad h r = rw (le-leb used (length image) h, r)
 
-  -- .. and with a readable image the newest entry's disk decides
+  -- .. and with a readable image the newest entry's N decides
   pub read-disk : used ≤ length image → readable image used ≡ true → (b : Bool) → sameDisk native image used ≡ b
       → (if b then 0 else 7) ≡ firstFailed (imageChecks native image used)
   read-disk h r b d = sym (rw (le-leb used (length image) h, r, d))
@@ -76,7 +76,7 @@ module _ (native : ℕ) (image : List ℕ) (used : ℕ) where
   pub save-room : firstFailed (imageChecks native image used) ≡ 0 → (if hasRoom image used then 0 else 8) ≡ firstFailed (saveChecks native image used)
   save-room e = later (leb used (length image)) (readable image used) (sameDisk native image used) (hasRoom image used) e .2
 
-  -- an image that is read, and not empty, has an entry in front of its used length
+  -- an image that passes the checks is readable, and if it is not empty it has an entry before its used length
   pub read-readable : firstFailed (imageChecks native image used) ≡ 0 → readable image used ≡ true
   read-readable e = later (leb used (length image)) (readable image used) (sameDisk native image used) true e .1
 

@@ -1,4 +1,4 @@
--- An entry of the saved image, tested on the image's bytes in place. The tests say the same as `bodyHolds` and `entryHolds`
+-- An entry of the saved image, tested on the image's bytes in place. The tests are equivalent to `bodyHolds` and `entryHolds`
 -- (proofs/EntryInPlace.antt).
 use mathlib.Core.Bool.{Bool, _&&_}
 use Prim.Native.Nat.{ℕ, _+_, _-_}

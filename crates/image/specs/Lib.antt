@@ -1,2 +1,2 @@
--- An entry tested in place.
+-- The definitions of the tests of an entry in place.
 pub mod EntryTests

@@ -12,7 +12,7 @@ ghost use Rattle.model.specs.Sizes.{entrySize, entryLimit};
 ghost use Rattle.model.specs.Image.{Saved, chainHolds, readable};
 
 // "Reading starts at the last trailer and follows the chain back": the entries from `number` down to the first, the last trailer at `at`.
-// `native` is what `alike` asks of the newest entry. The image is passed by the address of the slice, so that the call at the end takes no stack.
+// `native` is what `alike` needs of the newest entry. The image is passed as a reference to the slice, so that the call at the end takes no stack.
 fn chain_holds(native: u64, image: &&[u8], at: usize, number: u32) -> bool
     requires { ⌜ number ≤ entryLimit ⌝ }
     requires long { ⌜ entrySize * number ≤ length (now (now image)) ⌝ }

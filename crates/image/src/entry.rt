@@ -1,4 +1,4 @@
-// One entry of the saved image, tested in place: its body, its trailer.
+// One entry of the saved image, tested in place: its body and its trailer.
 use layout::BODY;
 use layout::BODY_U32;
 use layout::ENTRY_U32;
@@ -78,7 +78,7 @@ pub fn previous_place(number: u32) -> u32
     }
 }
 
-// Whether the letters stand at `at`.
+// Whether the letters are at `at`.
 fn tag_holds(image: &[u8], at: usize) -> bool
     requires { ⌜ at + 4 ≤ length (now image) ⌝ }
     ensures { λ r. ⌜ r ≡ same (part (now (image .entry)) at 4) tag ⌝ }
@@ -87,7 +87,7 @@ fn tag_holds(image: &[u8], at: usize) -> bool
     runs::same_part(image, at, &letters, 0, entry::TAG)
 }
 
-// Whether trailer `number` stands at `at`.
+// Whether trailer `number` is at `at`.
 fn trailer_holds(image: &[u8], at: usize, number: u32) -> bool
     requires { ⌜ (at + trailerSize ≤ length (now image)) × (1 ≤ number) × (number ≤ entryLimit) ⌝ }
     ensures { λ r. ⌜ r ≡ trailerInPlace (now (image .entry)) at number ⌝ }
@@ -99,7 +99,7 @@ fn trailer_holds(image: &[u8], at: usize, number: u32) -> bool
     (size == BODY_U32) & (before == previous_place(number)) & (named == number) & letters
 }
 
-// Whether entry `number` holds beside the newest, whose N is `native`; its trailer stands at `at`.
+// Whether entry `number` holds, given the newest entry's N, `native`; the entry's trailer is at `at`.
 pub fn entry_holds(native: u64, image: &[u8], at: usize, number: u32) -> bool
     requires { ⌜ (1 ≤ number) × (number ≤ entryLimit) × (at ≡ trailerPlace number) ⌝ }
     requires long { ⌜ entrySize * number ≤ length (now image) ⌝ }

@@ -1,4 +1,4 @@
-// The saved image as it is read: one entry tested in place (entry.rt), the chain of entries (chain.rt), and the answers to an image (refusal.rt).
+// How the saved image is read: one entry tested in place (entry.rt), the chain of entries (chain.rt), and the answers to an image (refusal.rt).
 mod chain;
 mod entry;
 mod refusal;

@@ -1,4 +1,4 @@
--- Save and power-on: what their checks say when they pass, and the two exits. A refusal leaves all as it was, and what is done is the
+-- Save and power-on: what holds when their checks pass, and the two exits. A refusal changes nothing, and a step that is done is the
 -- store's definition.
 use mathlib.Core.Path.{_≡_, sym, _∙_}
 use mathlib.Core.Bool.{true}
@@ -47,7 +47,7 @@ power-on-passed r a disk image used e z =
       readable = pass-all (imageChecks (length disk / sectorSize) image used) (all .1 .1 .1);
     }
 
--- ---- the exits
+-- ---- the two exits
 
 module _ (r image : List ℕ) (used n : ℕ) where
   pub save-refused : n ≡ firstFailed (saveChecks r image used) → (n ≡ 0 → ⊥) → saveBytes r image used ≡ record { answer = n; image = image; used = used }

@@ -1,4 +1,4 @@
-// Saved images: save and power-on.
+// The steps with a saved image, save and power-on, and their checks.
 use layout::NATIVE_LIMIT;
 use layout::PRIVATE;
 use layout::RECORD;
@@ -45,7 +45,7 @@ fn is_whole(disk_len: usize) -> bool
     (disk_len % SECTOR == 0) & ((1 <= disk_len / SECTOR) & (disk_len / SECTOR <= MOST_SECTORS))
 }
 
-// The checks of power-on. They see the sizes of record, private area and disk, not their bytes.
+// The checks of power-on. They read only the lengths of record, private area and disk, not their bytes.
 fn power_on_refusal(
     device_len: usize,
     area_len: usize,

@@ -1,4 +1,4 @@
--- A test of a sum that is not formed.
+-- A test of a sum without computing the sum.
 use mathlib.Core.Path.{_≡_}
 use Prim.Native.Nat.{ℕ, _+_, _-_, _≤_}
 use native.Mathlib.Omega.{arith}

@@ -1,4 +1,4 @@
--- Laws of a key as the code reads it: the lock and the visible size are all of the device that it sees, and the action decides which rows follow.
+-- Laws of a key as the code reads it: of the device it depends only on the lock and the visible size, and the action decides which rows follow.
 use mathlib.Core.Path.{_≡_, refl}
 use mathlib.Core.Bool.{Bool, true, false}
 use Prim.Native.Nat.{ℕ}

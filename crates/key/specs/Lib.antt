@@ -1,2 +1,2 @@
--- What a key as the code reads it says.
+-- What the code's verdict on a key means.
 pub mod VerdictMeaning

@@ -1,4 +1,4 @@
--- What a key as the code reads it says, in the model's words.
+-- What the code's verdict on a key means in the model.
 use Prim.Native.Nat.{ℕ}
 use mathlib.Core.List.{List}
 use Rattle.model.specs.Key.{Action, fillPattern, fillSector, setTimer, returnTimer, setFeature, returnState, returnOption, sendTable, Verdict, accepted, rejected}
@@ -7,7 +7,7 @@ use Rattle.key.specs.declared.key as key
 use Rattle.key.specs.declared.key.Action.the-variants.{FillPattern, FillSector, SetTimer, ReturnTimer, SetFeature, ReturnState, ReturnOption, SendTable}
 use Rattle.key.specs.declared.key.Verdict.the-variants.{Accepted, Rejected}
 
--- The sector of a pattern fill is no part of the code's action: it is repeated from the key's bytes when the fill begins.
+-- The sector of a pattern fill is not part of the code's action: it is repeated from the key's bytes when the fill begins.
 abbrev pub asAction : key.Action.Action → List ℕ → Action
 asAction (FillPattern first end) sector = fillPattern first end sector
 asAction (FillSector first end) sector = fillSector first end
@@ -22,7 +22,7 @@ abbrev pub asVerdict : key.Verdict.Verdict → List ℕ → Verdict
 asVerdict (Accepted a) sector = accepted (asAction a sector)
 asVerdict (Rejected code) sector = rejected code
 
--- the code of a refused key, and 0 of an accepted one
+-- the code of a refused key, and 0 for an accepted one
 abbrev pub refusalOf : key.Verdict.Verdict → ℕ
 refusalOf (Accepted a) = 0
 refusalOf (Rejected code) = code

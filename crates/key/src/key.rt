@@ -1,4 +1,4 @@
-// The key sector: read, checked in the paper's order, and what an accepted key asks.
+// The key sector: how it is read and checked in the paper's order, and what an accepted key asks for.
 use layout::sct;
 use record::Direction;
 use record::FeatureName;
@@ -17,7 +17,7 @@ ghost use Rattle.model.specs.Key.{word, start, count, highestState, timerName, 
 ghost use Rattle.record.specs.DeviceMeaning.{asDirection, asFeatureName};
 ghost use Rattle.key.specs.VerdictMeaning.{asAction, asVerdict, refusalOf};
 
-// A fill's numbers are its first sector and its end. A timer is set to a number of 100 ms; a feature to a state, with true where the
+// A fill's numbers are its first sector and its end. A timer is set to a number of 100 ms; a feature to a state, with true if the
 // option is 1: "Option 1 keeps a state over power".
 pub enum Action {
     FillPattern(u64, u64),
@@ -30,13 +30,13 @@ pub enum Action {
     SendTable,
 }
 
-// A key is accepted with what it asks, or refused with its code.
+// A key is accepted with what it asks for, or refused with its code.
 pub enum Verdict {
     Accepted(Action),
     Rejected(u16),
 }
 
-// The code of a refused key, and 0 of an accepted one.
+// The code of a refused key, and 0 for an accepted one.
 pub fn refusal_of(key: Verdict) -> u16
     ensures { λ r. ⌜ r ≡ refusalOf key ⌝ }
 {
@@ -64,7 +64,7 @@ fn fill_end(first: u64, sectors: u64, visible: u64) -> u64
     first + sectors
 }
 
-// Whether Start + Count is at most the last user LBA. The sum is not formed: it may not fit 64 bits.
+// Whether Start + Count is at most the last user LBA. The sum is not computed: it may not fit in 64 bits.
 fn sum_within(first: u64, sectors: u64, last: u64) -> bool
     requires { ⌜ first ≤ last ⌝ }
     ensures { λ r. ⌜ r ≡ leb (first + sectors) last ⌝ }
@@ -225,7 +225,7 @@ fn table_key(function: u16, name: u16) -> Verdict
 }
 
 // The key sector at `at`: the lock comes first, with 0012h; then an action that is "not 2 to 5", with 0010h; then the action's checks.
-// Of the device a key's checks see the lock and V, and nothing else.
+// A key's checks read only the lock and V of the device.
 pub fn read_key(area: &[u8], at: usize, locked: bool, visible: u64) -> Verdict
     requires { ⌜ (at + sectorSize ≤ length (now area)) × (1 ≤ visible) ⌝ }
     ensures { λ r. ⌜ ((d : Device) → d .locked ≡ locked → d .visible ≡ visible → asVerdict r (patternSector (part (now (area .entry)) at sectorSize)) ≡ judgeKey d (part (now (area .entry)) at sectorSize)) ⌝ }

@@ -1,4 +1,4 @@
-// The key sector: its checks in order, and what an accepted key asks.
+// The key sector: its checks in order, and what an accepted key asks for.
 mod key;
 
 pub use key::Action;

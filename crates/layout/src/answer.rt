@@ -1,4 +1,4 @@
-// The answers of a step, with the names of crates/model/specs/Sizes and of the header.
+// The answers of a step, with the names that they have in crates/model/specs/Sizes and in the header.
 
 // "No. Meaning"
 pub const DONE: u32 = 0;

@@ -1,4 +1,4 @@
-// The registers at the front of a mailbox or slot, and the commands and values that document 01 names in them.
+// The registers at the start of a mailbox or slot, and the commands and values that document 01 names for them.
 
 // "Bytes: 0/1 Features current/previous, 2/3 Sector Count, 4/5 LBA Low, 6/7 LBA Mid, 8/9 LBA High, 10 Device, 11 Command, 12 Status, 13 Error"
 pub const COUNT_AT: usize = 2;

@@ -1,4 +1,4 @@
-// The places of an entry of the saved image, in its body and in its trailer. Definitions have them in crates/model/specs/Image.
+// The places of an entry of the saved image, in its body and in its trailer. The definitions are in crates/model/specs/Image.
 use crate::table;
 
 // "Body: N at 0 and V at 8 (8 bytes each), flag 16, life maximum 17, features 1 to 3 at 18, 20, 22, kept marks in bits 0 to 2 of byte 24,

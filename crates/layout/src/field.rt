@@ -1,4 +1,4 @@
-// The places of the device record's fields (docs/record-layout.md). Definitions have them in crates/store/specs/Record.
+// The places of the device record's fields (docs/record-layout.md). The definitions are in crates/store/specs/Record.
 use crate::PORTS;
 use crate::TABLE_AT;
 use crate::port;
@@ -11,7 +11,7 @@ pub const LOCKED_AT: usize = 16;
 
 pub const INITIALIZED_AT: usize = 17;
 
-// The fill: no fill is 0, a running one 1; its three numbers are further down.
+// The fill's case: 0 is no fill, 1 a running fill; its three numbers are at FILL_FIRST_AT, FILL_NEXT_AT and FILL_END_AT.
 pub const FILL_AT: usize = 18;
 
 pub const CODE_AT: usize = 20;
@@ -50,7 +50,7 @@ pub const FILL_END_AT: usize = 64;
 
 pub const PORTS_AT: usize = 72;
 
-// The spare bytes: after the fill's case, the marks, the temperatures and the ports, each up to what follows.
+// The spare bytes: after the fill's case, the marks, the temperatures and the ports, each up to the next field.
 pub const FILL_SPARE_AT: usize = FILL_AT + 1;
 
 pub const FILL_SPARE: usize = CODE_AT - FILL_SPARE_AT;

@@ -1,5 +1,5 @@
-// The sizes of document 01 that code names, in bytes where nothing else is said. Definitions have them in crates/model/specs/Sizes and
-// crates/store/specs/Areas; that code and definitions agree is proved where they are used.
+// The sizes of document 01 that the code uses, in bytes unless stated otherwise. The definitions are in crates/model/specs/Sizes and
+// crates/store/specs/Areas; it is proved where they are used that code and definitions agree.
 
 pub mod answer;
 pub mod ata;
@@ -17,7 +17,7 @@ pub const SECTOR_U64: u64 = SECTOR as u64;
 
 pub const NATIVE_LIMIT: u64 = 65536;
 
-// "A mailbox is 528 bytes: 16 of registers, then a 512-byte sector." So is a slot.
+// "A mailbox is 528 bytes: 16 of registers, then a 512-byte sector." A slot has the same layout.
 pub const REGISTERS: usize = 16;
 
 pub const DATA: usize = SECTOR;

@@ -1,6 +1,6 @@
 // The key sector: its places, the actions, functions and selections that it names, and the extended status codes.
 
-// "Words 0 and 1 are action and function"; "Start bytes 4-11, Count 12-19"; "bytes 20-23 repeated 128 times". Actions 3 to 5 have words there:
+// "Words 0 and 1 are action and function"; "Start bytes 4-11, Count 12-19"; "bytes 20-23 repeated 128 times". Actions 3 to 5 have words instead:
 // what is selected (word 2), a value (word 3), an option (word 4).
 pub const FUNCTION_AT: usize = 2;
 
@@ -69,7 +69,7 @@ pub const REORDERING_LIMIT: u16 = 2;
 
 pub const LOG_INTERVAL_LIMIT: u16 = 65535;
 
-// Extended status codes, with the words of Table 6 of document 001.
+// Extended status codes, named after Table 6 of document 001.
 pub const COMPLETE: u16 = 0x0000;
 
 pub const INVALID_FUNCTION: u16 = 0x0001;

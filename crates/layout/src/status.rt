@@ -1,4 +1,4 @@
-// The status sector: its places and its fixed numbers. Definitions have them in crates/model/specs/Status.
+// The status sector: its places and its fixed numbers. The definitions are in crates/model/specs/Status.
 
 // "format 0002h; version 0001h at 2; spec 0001h at 4; flag bit 0 at 6; state at 10 (0, or 5 with a fill)"
 pub const FORMAT: u16 = 0x0002;

@@ -1,7 +1,7 @@
-// The places of the temperature table and its fixed numbers. Definitions have them in crates/model/specs/Temperature.
+// The places of the temperature table and its fixed numbers. The definitions are in crates/model/specs/Temperature.
 use crate::TABLE_AT;
 
-// "0002h; period 1; interval; bytes 6-9 = 3Ch, 46h, 05h, F6h; zeros; size 478 at 30; index at 32; history from 34": what stands before
+// "0002h; period 1; interval; bytes 6-9 = 3Ch, 46h, 05h, F6h; zeros; size 478 at 30; index at 32; history from 34": the bytes before
 // the interval, and bytes 6-9, are a number of four bytes each.
 pub const VERSIONS: u32 = 0x00010002;
 
@@ -21,7 +21,7 @@ pub const INDEX_AT: usize = 32;
 
 pub const HISTORY_AT: usize = 34;
 
-// .. and by their places in the record
+// .. and their places in the record
 pub const RECORD_INTERVAL_AT: usize = TABLE_AT + INTERVAL_AT;
 
 pub const RECORD_LIMITS_AT: usize = TABLE_AT + LIMITS_AT;

@@ -1,2 +1,2 @@
--- Laws of the owner's steps.
+-- Laws of the owner steps.
 pub mod OwnerStepLaws

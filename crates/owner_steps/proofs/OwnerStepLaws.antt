@@ -1,4 +1,4 @@
--- The owner's steps at their two exits: a refusal leaves the record as it was, and what is done is the store's definition.
+-- The owner steps at their two exits: a refusal leaves the record unchanged, and a step that is done is the store's definition.
 use mathlib.Core.Path.{_≡_, sym, ap, _∙_}
 use mathlib.Core.Bool.{true}
 use mathlib.Core.List.{List}
@@ -25,7 +25,7 @@ module _ (cs : List Check) (rule : Device → Device) (r : List ℕ) (n : ℕ) w
   pub owner-done : n ≡ firstFailed cs → n ≡ 0 → ownerBytes cs rule r ≡ ownerDone rule r
   owner-done e z = chosen-done n (firstFailed cs) (ownerDone rule r) (record { answer = firstFailed cs; recordArea = r }) e z
 
--- what is written of a device changed by a rule
+-- the record that is written for a device changed by a rule
 pub owner-written : (rule : Device → Device) (r : List ℕ) (d e : code.Device.Device) → asContents d (historyOf r) ≡ decode r → Changed rule d e
     → encode (asContents e (historyOf r)) ≡ ownerDone rule r .recordArea
 owner-written rule r d e says change = ap encode (changed-contents rule d e (historyOf r) (decode r) says change)

@@ -1,4 +1,4 @@
-// The owner's steps on the record: lock, unlock, set V, sample.
+// The owner steps on the record: lock, unlock, set V, sample.
 mod owner;
 
 pub use owner::lock;

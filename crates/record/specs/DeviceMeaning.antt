@@ -1,4 +1,4 @@
--- What the structs say: the model's device, field by field, and the record's contents. The history comes from the record's bytes.
+-- What the structs mean: the model's device, field by field, and the record's contents. The history comes from the record's bytes.
 use mathlib.Core.Bool.{Bool}
 use mathlib.Core.List.{List, map}
 use Prim.Native.Nat.{ℕ, _+_}
@@ -86,7 +86,7 @@ asContents d history = record { device = asDevice d history; stages = stagesOf (
 abbrev pub historyOf : List ℕ → List ℕ
 historyOf r = part r (headSize + tableHeadSize) historySize
 
--- .. and after what empties it or leaves it: "Any set of feature 3 empties the temperature history."
+-- .. and after a change that empties it or not: "Any set of feature 3 empties the temperature history."
 abbrev pub historyAfter : Bool → List ℕ → List ℕ
 historyAfter empties h = if empties then emptyHistory else h
 

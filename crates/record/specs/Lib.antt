@@ -1,2 +1,2 @@
--- What the structs say.
+-- What the structs mean.
 pub mod DeviceMeaning

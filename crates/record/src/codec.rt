@@ -1,4 +1,4 @@
-// What the record's bytes say, as a struct: read group by group.
+// What the record's bytes decode to, as a struct: they are read group by group.
 use crate::device::Command;
 use crate::device::Device;
 use crate::device::Feature;
@@ -75,7 +75,7 @@ fn flag_at(device: &[u8], at: usize) -> bool
     wire::u8_at(device, at) == 1
 }
 
-// The fill: its kind stands in byte 18, its three numbers from byte 48.
+// The fill: its kind is in byte 18, its three numbers are from byte 48 on.
 pub fn fill_at(device: &[u8]) -> Fill
     requires { ⌜ length (now device) ≡ recordSize ⌝ }
     ensures { λ res. ⌜ asFill res ≡ decode (now (device .entry)) .device .command .fill ⌝ }
@@ -96,7 +96,7 @@ pub fn code_at(device: &[u8]) -> u16
     wire::u16_at(device, field::CODE_AT)
 }
 
-// The last command. What the ports have pending stands in their slots.
+// The last command. What the ports have pending is in their slots.
 fn command_at(device: &[u8]) -> Command
     requires { ⌜ length (now device) ≡ recordSize ⌝ }
     ensures code { λ res. ⌜ res .code ≡ decode (now (device .entry)) .device .command .code ⌝ }
@@ -116,7 +116,7 @@ fn command_at(device: &[u8]) -> Command
     }
 }
 
-// The settings. The interval's state stands in the temperature table.
+// The settings. The interval's state is in the temperature table.
 pub fn settings_at(device: &[u8]) -> Settings
     requires { ⌜ length (now device) ≡ recordSize ⌝ }
     ensures { λ res. ⌜ asSettings res ≡ decode (now (device .entry)) .device .settings ⌝ }
@@ -142,7 +142,7 @@ pub fn settings_at(device: &[u8]) -> Settings
     }
 }
 
-// The temperatures. The newest reading's index stands in the temperature table.
+// The temperatures. The newest reading's index is in the temperature table.
 fn thermal_at(device: &[u8]) -> Thermal
     requires { ⌜ length (now device) ≡ recordSize ⌝ }
     ensures { λ res. ⌜ asThermal res (historyOf (now (device .entry))) ≡ decode (now (device .entry)) .device .thermal ⌝ }
@@ -204,7 +204,7 @@ pub fn visible_at(device: &[u8]) -> u64
     wire::u64_at(device, field::VISIBLE_AT)
 }
 
-// The device that the record's bytes say.
+// The device that the record's bytes decode to.
 pub fn decode(device: &[u8]) -> Device
     requires { ⌜ length (now device) ≡ recordSize ⌝ }
     ensures { λ res. ⌜ asContents res (historyOf (now (device .entry))) ≡ decode (now (device .entry)) ⌝ }

@@ -1,4 +1,4 @@
-// The device as a struct by value. The history stays in the record's bytes: the struct is small.
+// The device as a struct by value. The history stays in the record's bytes, which keeps the struct small.
 use layout::PORTS;
 ghost use mathlib.Core.Path.{_≡_};
 ghost use Prim.Native.Nat.{ℕ};
@@ -13,7 +13,7 @@ pub enum Stage {
 }
 
 // A pending transfer, 01's owed transfer: the temperature table to the host, or a fill's sector from it, with the fill's first
-// sector and its end (the first sector behind it).
+// sector and its end (the first sector after it).
 pub enum Transfer {
     None,
     Table,
@@ -106,7 +106,7 @@ impl Settings {
         }
     }
 
-    // The settings at power-on, of the timers and of the features that were saved.
+    // The settings at power-on, from the timers and the saved features.
     pub fn power_on(
         read_timer: u16,
         write_timer: u16,

@@ -1,4 +1,4 @@
-// The device record: the device as a struct by value (device.rt), and read from the record's bytes (codec.rt); what requests and keys name of it (names.rt).
+// The device record: the device as a struct (device.rt), decoded from the record's bytes (codec.rt); the names in requests and keys (names.rt).
 mod codec;
 mod device;
 mod names;

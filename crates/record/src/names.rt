@@ -1,6 +1,6 @@
-// What requests and keys name: a direction, and with it a recovery timer; a feature.
+// The names in requests and keys: a direction, which also selects a recovery timer; a feature.
 
-// Read: from the device to the host. Write: the other way.
+// Read: from the device to the host. Write: from the host to the device.
 pub enum Direction {
     Read,
     Write,

@@ -1,4 +1,4 @@
--- The last command with the transfers of four ports: what is asked of their list is asked of each.
+-- The last command with the transfers of four ports: a requirement on their list is a requirement on each.
 use mathlib.Core.Path.{_≡_, refl, sym, ap, ap₂}
 use mathlib.Core.Bool.{Bool, true, false, _&&_, and-true}
 use Prim.Native.Nat.{ℕ, _+_}
@@ -9,7 +9,7 @@ use Rattle.model.specs.Device.{Transfer, none, table, fillData, Command}
 use Rattle.model.specs.Valid.{pendingCount, pendingLimit}
 use Rattle.store.specs.Sound.{fillSound, transferSound, pendingSound, commandSound}
 
--- one more transfer counts for itself
+-- one more transfer adds its own count
 count-more : (t : Transfer) (ts : List Transfer) → pendingCount (t ∷ ts) ≡ pendingCount (t ∷ []) + pendingCount ts
 count-more none ts = omega arith
 count-more table ts = omega arith
@@ -28,7 +28,7 @@ module _ (v : ℕ) (a b c d : Transfer) where
       ≡ (pendingSound v (a ∷ b ∷ c ∷ d ∷ []) && leb (pendingCount (a ∷ b ∷ c ∷ d ∷ [])) limit)
   pending-four limit = ap₂ (λ (x : Bool) (n : ℕ). x && leb n limit) sound-four count-four
 
--- the fill, and what is pending beside it
+-- the fill, and what is pending at the same time
 pub command-tests : (v : ℕ) (c : Command)
     → (fillSound v (c .code) (c .fill) && (pendingSound v (c .pending) && leb (pendingCount (c .pending)) (pendingLimit (c .fill)))) ≡ commandSound v c
 unfolding commandSound

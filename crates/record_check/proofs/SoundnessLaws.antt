@@ -1,4 +1,4 @@
--- The tests that the code makes are soundness.
+-- The tests that the code makes are equivalent to soundness.
 use mathlib.Core.Path.{_≡_, ap, _∙_}
 use mathlib.Core.Bool.{Bool, _&&_}
 use mathlib.Core.List.{List}
@@ -22,7 +22,7 @@ pub tests-sound : (r : List ℕ) → Bytes r → length r ≡ recordSize
 unfolding soundInPlace
 tests-sound r b size = rw (sound-in-place r b, eq-eqb (length r) recordSize size)
 
--- the clauses on what is read part by part
+-- the clauses, on values that are read part by part
 pub device-tests : (r : List ℕ) (native visible minutes index : ℕ) (s : code.Settings.Settings) (command settings : Bool)
     → native ≡ decode r .device .native → visible ≡ decode r .device .visible → command ≡ commandSound visible (decode r .device .command)
     → settings ≡ settingsSound (asSettings s) → asSettings s ≡ decode r .device .settings

@@ -1,4 +1,4 @@
-// The clauses of document 01 on what a record says: read part by part, and judged as numbers and small structs.
+// The clauses of document 01 on what a record decodes to: it is read part by part, and checked as numbers and small structs.
 use layout::HISTORY_U16;
 use layout::NATIVE_LIMIT;
 use layout::field;
@@ -55,7 +55,7 @@ fn count_of(t: Transfer) -> u8
     }
 }
 
-// How many transfers may be pending beside the fill.
+// How many transfers may be pending with this fill.
 fn limit_of(fill: Fill) -> u8
     ensures { λ res. ⌜ res ≡ pendingLimit (asFill fill) ⌝ }
 {
@@ -66,7 +66,7 @@ fn limit_of(fill: Fill) -> u8
 }
 
 // "an owed fill has first < end ≤ V"; "a fill and an owed transfer never coexist", and at most one is pending: what the four ports have
-// pending, beside a fill that leaves room for `limit`.
+// pending, with a fill that allows at most `limit`.
 fn pending_sound(device: &[u8], visible: u64, limit: u8) -> bool
     requires { ⌜ length (now device) ≡ recordSize ⌝ }
     ensures { λ res. ⌜ res ≡ (pendingSound visible (decode (now (device .entry)) .device .command .pending) && leb (pendingCount (decode (now (device .entry)) .device .command .pending)) limit) ⌝ }
@@ -119,7 +119,7 @@ fn settings_sound(s: Settings) -> bool
         )
 }
 
-// "1 ≤ V ≤ N ≤ 65,536"; "minutes counted are below it, the history index is at most 477". The history is not judged.
+// "1 ≤ V ≤ N ≤ 65,536"; "minutes counted are below it, the history index is at most 477". The history is not checked.
 pub fn device_sound(device: &[u8]) -> bool
     requires { ⌜ length (now device) ≡ recordSize ⌝ }
     ensures { λ res. ⌜ res ≡ deviceSound (decode (now (device .entry)) .device) ⌝ }

@@ -1,4 +1,4 @@
-// The tests on a record's bytes in place: spare bytes, flags, and the cases of fill and slots.
+// The tests on a record's bytes in place: spare bytes, flags, and the cases of the fill and the slots.
 use layout::field;
 use layout::port;
 ghost use mathlib.Core.Path.{_≡_};
@@ -19,7 +19,7 @@ const PORT_2_SPARE_AT: usize = PORT_1_SPARE_AT + port::SIZE;
 
 const PORT_3_SPARE_AT: usize = PORT_2_SPARE_AT + port::SIZE;
 
-// The spare bytes are 0.
+// Whether the spare bytes are 0.
 pub fn spare_zero(device: &[u8]) -> bool
     requires { ⌜ length (now device) ≡ recordSize ⌝ }
     ensures { λ res. ⌜ res ≡ zeroRuns spareRuns (now (device .entry)) ⌝ }
@@ -38,7 +38,7 @@ pub fn spare_zero(device: &[u8]) -> bool
                                 )))))))
 }
 
-// The flag in the byte at `at` is 0 or 1.
+// Whether the flag in the byte at `at` is 0 or 1.
 fn flag_named(device: &[u8], at: usize) -> bool
     requires { ⌜ at + 1 ≤ length (now device) ⌝ }
     ensures { λ res. ⌜ res ≡ leb (get 1 (now (device .entry)) at) 1 ⌝ }
@@ -57,7 +57,7 @@ pub fn flags_named(device: &[u8]) -> bool
             & flag_named(device, field::LOG_INTERVAL_KEPT_AT))
 }
 
-// A fill runs or not; its numbers are 0 where it does not.
+// A fill runs or not; if not, its numbers are 0.
 pub fn fill_named(device: &[u8]) -> bool
     requires { ⌜ length (now device) ≡ recordSize ⌝ }
     ensures { λ res. ⌜ res ≡ fillNamed (now (device .entry)) ⌝ }
@@ -69,7 +69,7 @@ pub fn fill_named(device: &[u8]) -> bool
     (kind == 1) | ((kind == 0) & (first == 0) & ((next == 0) & (end == 0)))
 }
 
-// Slot i: a named stage and kind; the transfer's numbers are 0 where it is no fill's.
+// Slot i: a named stage and kind; the transfer's numbers are 0 unless it is a fill's.
 fn slot_named(device: &[u8], i: usize) -> bool
     requires { ⌜ (length (now device) ≡ recordSize) × (i < 4) ⌝ }
     ensures { λ res. ⌜ res ≡ slotNamed (now (device .entry)) i ⌝ }

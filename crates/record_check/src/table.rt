@@ -1,4 +1,4 @@
-// A temperature table that stands in a run of bytes: the record's, or that of a saved entry.
+// The test of a temperature table in a run of bytes: the record's, or that of a saved entry.
 use layout::HISTORY_U16;
 use layout::table;
 ghost use mathlib.Core.Path.{_≡_};
@@ -7,7 +7,7 @@ ghost use lib.ListN.{length};
 ghost use Rattle.model.specs.Sizes.{sectorSize};
 ghost use Rattle.store.specs.RecordTests.{tableFixed};
 
-// Whether the fixed bytes of the table at `at` are right.
+// Whether the fixed bytes of the table at `at` have their values.
 pub fn table_fixed(run: &[u8], at: usize) -> bool
     requires { ⌜ at + sectorSize ≤ length (now run) ⌝ }
     ensures { λ r. ⌜ r ≡ tableFixed (now (run .entry)) at ⌝ }

@@ -1,4 +1,4 @@
-// A whole record: the tests on its bytes, and the clauses on what they say.
+// The test of a whole record: the tests on its bytes, and the clauses on what they decode to.
 use crate::clauses::device_sound;
 use crate::places::fill_named;
 use crate::places::flags_named;

@@ -1,2 +1,2 @@
--- Laws of the fields of slots.
+-- Laws of the fields of the four slots.
 pub mod SlotsLaws

@@ -1,4 +1,4 @@
--- The fields of four slots, one by one: those of their list are those of each.
+-- The fields of four slots: those of their list are those of each slot in order.
 use mathlib.Core.Path.{_≡_, ap, subst}
 use Prim.Native.Nat.{ℕ}
 use mathlib.Core.List.{List, _++_}
@@ -10,7 +10,7 @@ use Rattle.store.proofs.RecordLaws.{four-back}
 use Rattle.record.specs.DeviceMeaning.{asStage, asTransfer, stagesOf, pendingOf}
 use Rattle.record.specs.declared.device as code
 
--- slot i's fields; x stands for a slot past the end
+-- slot i's fields; x is used for a slot past the end
 abbrev pub fieldsIn : List code.Slot.Slot → code.Slot.Slot → ℕ → List Field
 fieldsIn l x i = slotFields (slotAt i) (asStage (getD l i x .stage)) (asTransfer (getD l i x .pending))
 

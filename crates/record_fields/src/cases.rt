@@ -1,4 +1,4 @@
-// Cases as the numbers that a record holds.
+// How cases are encoded as the numbers that a record holds.
 use layout::port;
 use record::Fill;
 use record::Transfer;

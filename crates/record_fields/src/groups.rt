@@ -1,4 +1,4 @@
-// The fields of a record's first half, stored group by group.
+// How the fields of a record's first half are stored, group by group.
 use crate::cases::fill_end;
 use crate::cases::fill_first;
 use crate::cases::fill_kind;

@@ -1,4 +1,4 @@
-// A device's fields stored in a record: its cases as numbers (cases.rt), and the fields of the first half by groups (groups.rt).
+// How a device's fields are stored in a record: cases as numbers (cases.rt), and the fields of the first half by groups (groups.rt).
 mod cases;
 mod groups;
 

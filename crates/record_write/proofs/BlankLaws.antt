@@ -1,4 +1,4 @@
--- What `frame` stores is the blank record, whatever stood there. It is framed, and its history is empty.
+-- What `frame` stores is the blank record, whatever was there before. It is framed, and its history is empty.
 use mathlib.Core.Path.{_≡_, refl, sym, ap, _∙_}
 use Prim.Native.Nat.{ℕ, _+_}
 use native.Mathlib.Omega.{arith}
@@ -24,7 +24,7 @@ use Rattle.record_write.specs.Blank.{blankRecord}
 abbrev fixedFields : List Field
 fixedFields = (headSize, 4, tableVersions) ∷ (headSize + tableLimitsPlace, 4, tableLimits) ∷ (headSize + tableSizePlace, 2, historySize) ∷ []
 
--- the record in front of the history
+-- the record before the history
 abbrev front : List ℕ
 front = form (headSize + tableHeadSize) fixedFields
 
@@ -36,7 +36,7 @@ front-blank : front ++ emptyHistory ≡ blankRecord
 unfolding blankRecord tableBytes
 front-blank = ap (λ (l : List ℕ). l ++ emptyHistory) front-is ∙ append-assoc (zeros headSize) (form tableHeadSize (tableFields 0 0)) emptyHistory
 
--- a run stored over all of a run of its length
+-- a run stored over the whole of a run of the same length
 stored-whole : (vs r : List ℕ) → length vs ≡ length r → sets r 0 vs ≡ vs
 stored-whole vs r e = sym (take-all (length r) (sets r 0 vs) (rw (length-sets r 0 vs) (omega arith))) ∙ part-same vs r 0 (length r) e (omega arith)
 
@@ -48,7 +48,7 @@ pub blank-history : historyOf blankRecord ≡ emptyHistory
 unfolding blankRecord tableBytes form put le
 blank-history = refl
 
--- THE LAW of a record made anew
+-- THE LAW of an initialised record
 pub blank-stored : (r : List ℕ) → length r ≡ recordSize
     → sets (stores fixedFields (sets r 0 (zeros (headSize + tableHeadSize)))) (headSize + tableHeadSize) emptyHistory ≡ blankRecord
 blank-stored r size =

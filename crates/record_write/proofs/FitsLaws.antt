@@ -1,4 +1,4 @@
--- The contents that a struct says, with a whole history, fit the record.
+-- The contents that a struct means, with a full history, fit the record.
 use mathlib.Core.Path.{_≡_, _∙_}
 use Prim.Native.Nat.{ℕ}
 use mathlib.Core.List.{List, [], _++_}
@@ -13,7 +13,7 @@ use Rattle.record.specs.DeviceMeaning.{asFill, asSettings, asThermal, stagesOf,
 use Rattle.record_write.specs.Fits.{NumbersFit}
 use Rattle.record.specs.declared.device as code
 
--- the fields of the first half fit, where each group's do
+-- the fields of the first half fit, if each group's do
 pub groups-fit : (d : code.Device.Device) → Fit (sizeFields (asDevice d [])) → Fit (commandFields (asCommand (d .command) [])) → Fit (settingsFields (asSettings (d .settings)))
     → Fit (thermalFields (asThermal (d .thermal) [])) → Fit (fillFields (asFill (d .command .fill))) → Fit (slotsFields (stagesOf (d .slots)) (pendingOf (d .slots))) → Fit (headFields (asContents d []))
 groups-fit d sizes command settings thermal fill slots =

@@ -1,4 +1,4 @@
--- Which records are framed: the sound ones, those that are written, and those with other readings in their history.
+-- Which records are framed: the sound ones, the written ones, and those with new readings in their history.
 use mathlib.Core.Path.{_≡_, refl, ap₂, _∙_}
 use mathlib.Core.Bool.{Bool, true, _&&_}
 use Prim.Native.Nat.{ℕ, _+_, _-_, _≤_}
@@ -31,15 +31,15 @@ sound-framed r b e = let t = sound-tests r b e in record { size = t .size; spare
 pub encode-framed : (c : Contents) → ContentsFit c → Framed (encode c)
 encode-framed c fit = record { size = length-encode c fit; spare = encode-spare c fit; fixed = encode-fixed c fit }
 
--- what `write` leaves
+-- the record after `write`
 pub written-framed : (r : List ℕ) (d : code.Device.Device) → Bytes r → length r ≡ recordSize → NumbersFit d → Framed (encode (asContents d (historyOf r)))
 written-framed r d b size f =
     encode-framed (asContents d (historyOf r))
     (contents-fit d (historyOf r) f (length-part r (headSize + tableHeadSize) historySize (omega arith)) (bytes-part r (headSize + tableHeadSize) historySize b))
 
--- ---- stores behind the table's head
+-- ---- stores after the table's head
 
--- runs in front of a store
+-- runs before a store
 runs-kept : (runs : List (ℕ × ℕ)) (r : List ℕ) (at : ℕ) (vs : List ℕ) → RunsWithin at runs → zeroRuns runs (sets r at vs) ≡ zeroRuns runs r
 runs-kept [] r at vs w = refl
 runs-kept (x ∷ xs) r at vs w =

@@ -1,4 +1,4 @@
--- What the stores of history.rt do to the history.
+-- What the stores of history.rt change in the history.
 use mathlib.Core.Path.{_≡_}
 use Prim.Native.Nat.{ℕ, _+_, _<_}
 use native.Mathlib.Omega.{arith}

@@ -1,4 +1,4 @@
--- Laws of the record's bytes as they are written, in reading order.
+-- Laws of the record's bytes after a write, in reading order.
 pub mod StoredLaws
 pub mod FitsLaws
 pub mod FramedLaws

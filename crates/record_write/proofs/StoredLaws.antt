@@ -1,4 +1,4 @@
--- The groups of fields stored one after the other, and the table's two numbers: the record of the device.
+-- Storing the groups of fields one after the other, and the table's two numbers, gives the record of the device.
 use mathlib.Core.Path.{_≡_, refl}
 use Prim.Native.Nat.{ℕ}
 use mathlib.Core.List.{List, []}

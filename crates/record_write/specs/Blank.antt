@@ -1,4 +1,4 @@
--- A record made anew, before its fields are written.
+-- An initialised record, before its fields are written.
 use Prim.Native.Nat.{ℕ}
 use mathlib.Core.List.{List, _++_}
 use Rattle.wire.specs.Parts.{zeros}

@@ -1,4 +1,4 @@
--- The numbers of a struct fit their places in the record: a fact of their types, which `write` hands to its callers.
+-- The numbers of a struct fit their places in the record: this follows from their types, and `write` passes it on to its callers.
 use mathlib.Core.Path.{_≡_}
 use Prim.Native.Nat.{_^_, _<_}
 use mathlib.Core.List.{[]}

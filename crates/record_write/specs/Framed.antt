@@ -1,4 +1,4 @@
--- A record in which the bytes that no write changes are in place.
+-- A record in which the bytes that no write changes have their values.
 use mathlib.Core.Path.{_≡_}
 use mathlib.Core.Bool.{true}
 use Prim.Native.Nat.{ℕ}

@@ -1,4 +1,4 @@
--- What a record must be for a write, what a write hands on, and a record made anew, in reading order.
+-- What a write requires of a record, what it ensures, and an initialised record, in reading order.
 pub mod Framed
 pub mod Fits
 pub mod Blank

@@ -1,4 +1,4 @@
-// The device written into a record: every field of the first half, and the two numbers of the table that change.
+// How the device is written into a record: every field of the first half, and the two numbers of the table that change.
 use layout::field;
 use layout::port;
 use layout::table;
@@ -22,7 +22,7 @@ ghost use Rattle.record.specs.DeviceMeaning.{asStage, asContents, historyOf};
 ghost use Rattle.record_write.specs.Framed.{Framed};
 ghost use Rattle.record_write.specs.Fits.{NumbersFit};
 
-// The interval and the newest reading's index stand in the temperature table.
+// Writes the interval and the newest reading's index, which are in the temperature table.
 fn put_table(device: &mut [u8], interval: u16, index: u16)
     requires { ⌜ length (now device) ≡ recordSize ⌝ }
     ensures { λ _. ⌜ now (device .exit) ≡ stores (tableNumbers interval index) (now (device .entry)) ⌝ }
@@ -43,7 +43,7 @@ pub fn put_stage(device: &mut [u8], p: usize, stage: Stage)
     );
 }
 
-// Writes the device into a record; the history stays.
+// Writes the device into a record; the history is unchanged.
 pub fn write(device: &mut [u8], d: Device)
     requires { ⌜ Framed (now device) ⌝ }
     ensures { λ _. ⌜ now (device .exit) ≡ encode (asContents d (historyOf (now (device .entry)))) ⌝ }

@@ -1,4 +1,4 @@
-// A record made anew, whatever stood there: zeros, and the temperature table of an empty history.
+// How a record is initialised, whatever was there before: zeros, and the temperature table of an empty history.
 use crate::history::empty_history;
 use layout::HISTORY_U16;
 use layout::TABLE_AT;

@@ -1,4 +1,4 @@
-// The history in the record's bytes: one reading logged, and all of them removed.
+// The history in the record's bytes: how one reading is logged, and how all of them are removed.
 use layout::HISTORY;
 use layout::MISSING;
 use layout::table;

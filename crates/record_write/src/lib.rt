@@ -1,4 +1,4 @@
-// A record written: the device's fields (fields.rt), readings of the history (history.rt), and a record made anew (framing.rt).
+// How a record is written: the device's fields (fields.rt), readings of the history (history.rt), and an initialised record (framing.rt).
 mod fields;
 mod framing;
 mod history;

@@ -1,4 +1,4 @@
--- What the checks of take, serve, give and work say of the buffers when they pass.
+-- What holds for the buffers when the checks of take, serve, give and work pass.
 use mathlib.Core.Path.{_≡_, refl, sym, _∙_}
 use mathlib.Core.Bool.{Bool, true, false}
 use mathlib.Core.List.{List, [], _∷_, _++_}
@@ -24,7 +24,7 @@ native-limit r b s = sound-valid r b s .device .sizes .2
 pub visible-native : (r : List ℕ) → Bytes r → sound r ≡ true → decode r .device .visible ≤ decode r .device .native
 visible-native r b s = sound-valid r b s .device .sizes .1
 
--- checks, then others: those decide where the first all pass
+-- checks, then others: the others decide if the first ones all pass
 pub first-then : (bound : ℕ) (cs ds : List Check) → Numbered bound cs → firstFailed (cs ++ ds) ≡ ifPassed (firstFailed cs) (firstFailed ds) (firstFailed cs)
 first-then bound [] ds n = refl
 first-then bound (c ∷ cs) ds n = go (c .0) (first-then bound cs ds (n .2))
@@ -33,7 +33,7 @@ first-then bound (c ∷ cs) ds n = go (c .0) (first-then bound cs ds (n .2))
     go true h = h
     go false h = sym (passed-not (c .1) (firstFailed ds) (c .1) (λ z. omega (arith, n .0, z)))
 
--- ---- what passed
+-- ---- what holds then
 
 pub record MailboxPassed (r : List ℕ) (p : ℕ) (m a : List ℕ) : Type 0 where
   pub isSound : sound r ≡ true
@@ -81,7 +81,7 @@ module _ (r : List ℕ) (p : ℕ) (a disk : List ℕ) (n : ℕ) where
   pub serve-second : n ≡ firstFailed (workChecks r a disk) → n ≡ 0 → firstFailed slotChecks ≡ firstFailed (serveChecks r p a disk)
   serve-second e z = sym (both ∙ chosen-done n (firstFailed (workChecks r a disk)) (firstFailed slotChecks) (firstFailed (workChecks r a disk)) e z)
 
--- .. so where they pass, work's do
+-- .. so if they pass, work's do
 pub serve-passed : (r : List ℕ) (p : ℕ) (a disk : List ℕ) {n : ℕ} → n ≡ firstFailed (serveChecks r p a disk) → n ≡ 0 → DiskPassed r a disk × (p < portCount)
 serve-passed r p a disk e z =
     let all = all-pass 4 (serveChecks r p a disk) (omega arith) (sym e ∙ z) in

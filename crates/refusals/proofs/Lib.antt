@@ -1,2 +1,2 @@
--- Laws of the checks.
+-- Laws of the checks of take, serve, give and work.
 pub mod CheckLaws

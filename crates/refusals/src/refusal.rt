@@ -1,4 +1,4 @@
-// The checks of take, serve, give and work, in the order of their numbers: 4, 2, 1, 3; and the length of the disk that they let a step write.
+// The checks of take, serve, give and work, in the order of their numbers: 4, 2, 1, 3; and the length of the disk that a step may write.
 use layout::MAILBOX;
 use layout::PORTS_U32;
 use layout::PRIVATE;
@@ -34,7 +34,7 @@ fn slot_refusal(device: &[u8], port: u32, needed: Stage) -> u32
     answer::DONE
 }
 
-// The checks of take and give. They see the sizes of mailbox and private area, not their bytes.
+// The checks of take and give. They read only the lengths of mailbox and private area, not their bytes.
 pub fn mailbox_refusal(
     device: &[u8],
     port: u32,
@@ -64,7 +64,7 @@ fn is_disk(device: &[u8], disk_len: usize) -> bool
     disk_len as u64 == SECTOR_U64 * record::native_at(device)
 }
 
-// The bytes of the visible disk.
+// The length of the visible disk in bytes.
 pub fn visible_len(device: &[u8]) -> usize
     requires { ⌜ sound (now device) ≡ true ⌝ }
     ensures { λ e. ⌜ e ≡ sectorSize * decode (now (device .entry)) .device .visible ⌝ }

@@ -1,4 +1,4 @@
--- Laws of a reply in its slot: the registers, and the sector behind them.
+-- Laws of a reply in its slot: the registers, and the sector after them.
 use mathlib.Core.Path.{_≡_, sym, ap, _∙_}
 use mathlib.Core.Bool.{true}
 use Prim.Native.Nat.{ℕ, _+_, _-_}
@@ -24,12 +24,12 @@ reply-clear : (r : Registers) → registersBytes r ++ zeros dataSize ≡ replyBy
 unfolding replyBytes padded
 reply-clear r = rw (append-nil, length-registers r)
 
--- THE LAW of a reply with data: the registers stored, and then the sector behind them
+-- THE LAW of a reply with data: the registers are stored, and then the sector after them
 pub reply-stored : (l : List ℕ) (at : ℕ) (r : Registers) (s : List ℕ) → length s ≡ dataSize
     → sets (sets l at (registersBytes r)) (at + registersSize) s ≡ sets l at (replyBytes r s)
 reply-stored l at r s h = sets-then (registersBytes r) s l at registersSize (length-registers r) ∙ ap (sets l at) (reply-full r s h)
 
--- .. and without: the data is zeros
+-- .. and without data: the sector is zeros
 pub reply-cleared : (l : List ℕ) (at : ℕ) (r : Registers) → sets (sets l at (registersBytes r)) (at + registersSize) (zeros dataSize) ≡ sets l at (replyBytes r [])
 reply-cleared l at r = sets-then (registersBytes r) (zeros dataSize) l at registersSize (length-registers r) ∙ ap (sets l at) (reply-clear r)
 

@@ -1,2 +1,2 @@
--- What a reply's struct says.
+-- What a reply's struct means.
 pub mod ReplyMeaning

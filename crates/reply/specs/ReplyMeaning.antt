@@ -1,4 +1,4 @@
--- What a reply's struct says, in the model's words.
+-- What a reply's struct means in the model.
 use Rattle.model.specs.Registers.{Registers}
 use Rattle.reply.specs.declared.registers as code
 

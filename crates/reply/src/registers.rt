@@ -1,4 +1,4 @@
-// A reply: its registers, and the bytes that it is in the slot.
+// A reply: its registers, and its bytes in the slot.
 use layout::DATA;
 use layout::REGISTERS;
 use layout::ata;
@@ -13,10 +13,10 @@ ghost use Rattle.model.specs.Sizes.{mailboxSize};
 ghost use Rattle.model.specs.Registers.{good, refused, refusedWith, registersBytes, replyBytes};
 ghost use Rattle.reply.specs.ReplyMeaning.{asRegisters};
 
-// What a byte counts up to: the value's low and high byte stand in two registers.
+// The number of values of a byte: the value's low and high byte are in two registers.
 const BYTE: u16 = 256;
 
-// `value` stands in Sector Count (low) and LBA Low (high), `sectors` in LBA Mid.
+// `value` goes in Sector Count (low) and LBA Low (high), `sectors` in LBA Mid.
 pub struct Reply {
     pub status: u8,
     pub error: u8,

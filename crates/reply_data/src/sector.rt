@@ -1,4 +1,4 @@
-// The replies that carry data: the status sector, Table 11 of document 001; the temperature table; a sector of the disk.
+// How the replies that carry data are written: the status sector (Table 11 of document 001), the temperature table, a sector of the disk.
 use layout::REGISTERS;
 use layout::SECTOR;
 use layout::SECTOR_U64;

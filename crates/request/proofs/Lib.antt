@@ -1,2 +1,2 @@
--- Laws of what is read from a slot.
+-- Laws of the bytes that are read from a slot.
 pub mod RequestBytes

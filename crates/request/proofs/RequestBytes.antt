@@ -1,4 +1,4 @@
--- A byte read from the bytes of a slot is read from the slot; the LBA from its bytes.
+-- A byte read at its place in the slot is a byte of the request; the LBA is computed from its bytes.
 use mathlib.Core.Path.{_≡_, sym, _∙_}
 use Prim.Native.Nat.{ℕ, _+_, _*_, _<_}
 use native.Mathlib.Nat.{add-zero}

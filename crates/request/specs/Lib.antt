@@ -1,2 +1,2 @@
--- What a request of the code says.
+-- What the code's request means.
 pub mod RequestMeaning

@@ -1,4 +1,4 @@
--- What a request of the code says, in the model's words.
+-- What the code's request means in the model.
 use Rattle.model.specs.Registers.{Request, statusRead, keySector, dataTransfer, sectorAccess, other}
 use Rattle.record.specs.DeviceMeaning.{asDirection}
 use Rattle.request.specs.declared.request as request

@@ -1,4 +1,4 @@
-// The checks of a data transfer (E1h) and of one sector's access (24h and 34h).
+// The checks of a data transfer (E1h) and of an access to one sector (24h and 34h).
 use layout::ata;
 use layout::sct;
 use record::Direction;
@@ -9,7 +9,7 @@ ghost use Rattle.model.specs.Device.{Device};
 ghost use Rattle.model.specs.Decide.{moves, sectorsOf, dataChecks, sectorChecks};
 ghost use Rattle.record.specs.DeviceMeaning.{asTransfer, asDirection};
 
-// Whether the pending transfer goes in this direction: the table is read, a fill's sector written.
+// Whether the pending transfer has this direction: the table is read, a fill's sector is written.
 fn moves(dir: Direction, pending: Transfer) -> bool
     ensures { λ r. ⌜ r ≡ moves (asDirection dir) (asTransfer pending) ⌝ }
 {
@@ -26,7 +26,7 @@ fn moves(dir: Direction, pending: Transfer) -> bool
     }
 }
 
-// The sectors that a transfer moves.
+// The number of sectors that a transfer moves.
 fn sectors_of(pending: Transfer) -> u16
     ensures { λ r. ⌜ r ≡ sectorsOf (asTransfer pending) ⌝ }
 {
@@ -37,7 +37,7 @@ fn sectors_of(pending: Transfer) -> u16
     }
 }
 
-// "E1h is judged: lock 0012h; .. 000Bh; count not 1 0003h." 0 where nothing fails.
+// "E1h is judged: lock 0012h; .. 000Bh; count not 1 0003h." 0 if nothing fails.
 pub fn data_code(locked: bool, dir: Direction, count: u16, pending: Transfer) -> u16
     ensures { λ r. ⌜ r ≡ firstFailed (dataChecks locked (asDirection dir) count (asTransfer pending)) ⌝ }
 {
@@ -53,7 +53,7 @@ pub fn data_code(locked: bool, dir: Direction, count: u16, pending: Transfer) ->
     sct::COMPLETE
 }
 
-// "Count (16 bits) other than 1: Error 04h. LBA at or above V: Error 10h. Locked: Error 04h, before both." 0 where nothing fails.
+// "Count (16 bits) other than 1: Error 04h. LBA at or above V: Error 10h. Locked: Error 04h, before both." 0 if nothing fails.
 pub fn sector_error(locked: bool, visible: u64, count: u16, lba: u64) -> u8
     ensures { λ r. ⌜ ((d : Device) → d .locked ≡ locked → d .visible ≡ visible → r ≡ firstFailed (sectorChecks d count lba)) ⌝ }
 {

@@ -1,4 +1,4 @@
-// What a slot's registers ask: the request that they are (request.rt), and the checks of data and of one sector (access.rt).
+// What a slot's registers ask for: the request that they encode (request.rt), and the checks of data and of one sector (access.rt).
 mod access;
 mod request;
 

@@ -1,4 +1,4 @@
-// The request that a slot's registers are.
+// The request that a slot's registers encode.
 use layout::ata;
 use record::Direction;
 use wire::u8_at;
@@ -48,7 +48,7 @@ fn log_page(dir: Direction, page: u8, count: u16) -> Request
     Request::Other
 }
 
-// "B0h, Features D5h (read log) or D6h (write log), LBA Mid 4Fh, High C2h": of registers that hold these bytes.
+// "B0h, Features D5h (read log) or D6h (write log), LBA Mid 4Fh, High C2h": for registers that hold these bytes.
 fn smart_page(feature: u8, count: u8, page: u8, mid: u8, high: u8) -> Request
     ensures { λ r. ⌜ ((m : List ℕ) → features m ≡ feature → count8 m ≡ count → lbaLow m ≡ page → lbaMid m ≡ mid → lbaHigh m ≡ high → asRequest r ≡ smartLog m) ⌝ }
 {
@@ -95,14 +95,14 @@ fn log_ext(dir: Direction, area: &[u8], at: usize) -> Request
     )
 }
 
-// What one, two and three bytes count up to.
+// The number of values of one, two and three bytes.
 const BYTE: u64 = 256;
 
 const TWO_BYTES: u64 = 65536;
 
 const THREE_BYTES: u64 = 16777216;
 
-// The number of three bytes, the low one first.
+// The number in three bytes, low byte first.
 fn join24(a: u8, b: u8, c: u8) -> u64
     ensures { λ r. ⌜ r ≡ a + 256 * b + 65536 * c ⌝ }
 {

@@ -1,4 +1,4 @@
--- The device that power-on makes, and the record of it.
+-- The device after power-on, and its record.
 use mathlib.Core.Path.{_≡_, sym, ap, _∙_, subst}
 use mathlib.Core.Bool.{Bool, true, false}
 use Prim.Native.Nat.{ℕ, _+_, _-_, _≤_}
@@ -29,7 +29,7 @@ use Rattle.record_write.proofs.FramedLaws.{history-stored}
 use Rattle.record_write.proofs.BlankLaws.{blank-framed, blank-history}
 use Rattle.image.proofs.ImageAnswers.{read-readable, read-entry}
 
--- a device with these values, and all else as power-on leaves it
+-- a device with these values, and everything else as power-on sets it
 abbrev pub poweredDevice : ℕ → ℕ → Bool → ℕ → Settings → ℕ → List ℕ → Device
 poweredDevice native visible initialized life settings index history =
     record {
@@ -50,7 +50,7 @@ unfolding powerOn
 powered-is s native visible initialized life settings index en ev ei el es ex =
     λ j. poweredDevice (en j) (ev j) (ei j) (el j) (es j) (ex j) (powerOnThermal s .history)
 
--- the index that is kept, from the interval after power-on
+-- the index that is kept, decided by the interval after power-on
 pub index-kept : (s : Saved) (settings : Settings) (index : ℕ) → settings ≡ powerOnSettings s
     → index ≡ (if eqb (settings .logInterval .state) (s .logInterval .state) then s .index else emptyIndex)
     → index ≡ powerOnThermal s .index
@@ -85,7 +85,7 @@ saved-history : (image : List ℕ) (at : ℕ) → at + bodySize ≤ length image
 unfolding savedAt
 saved-history image at fits = length-part image (at + (bodyHead + tableHeadSize)) historySize (omega arith)
 
--- what is left of a blank record when the history is copied, or not
+-- a blank record after the history is copied into it, or not
 history-into : (b : Bool) (r h : List ℕ) → Framed r → historyOf r ≡ emptyHistory → length h ≡ historySize
     → Framed (if b then sets r (headSize + tableHeadSize) h else r) × (historyOf (if b then sets r (headSize + tableHeadSize) h else r) ≡ (if b then h else emptyHistory))
 history-into true r h f none size =

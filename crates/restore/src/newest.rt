@@ -1,4 +1,4 @@
-// What power-on restores: the device of the newest entry, or of an empty image.
+// What power-on restores: the device of the newest entry, or that of an empty image.
 use layout::EMPTY_INDEX;
 use layout::ENTRY;
 use layout::HISTORY;
@@ -37,7 +37,7 @@ fn has_bit(weight: u8, byte: u8) -> bool
     byte / weight % 2 == 1
 }
 
-// The settings of the entry at `at`, as power-on leaves them.
+// The settings of the entry at `at`, as power-on keeps them.
 fn saved_settings(image: &[u8], at: usize) -> Settings
     requires { ⌜ at + bodySize ≤ length (now image) ⌝ }
     ensures { λ r. ⌜ asSettings r ≡ powerOnSettings (savedAt (now (image .entry)) at) ⌝ }
@@ -112,7 +112,7 @@ fn blank_device(native: u64) -> Device
     powered(native, native, false, MISSING, settings, EMPTY_INDEX)
 }
 
-// "The history is kept if the interval after power-on equals the saved one": its index.
+// "The history is kept if the interval after power-on equals the saved one": the index that is kept.
 fn kept_index(image: &[u8], at: usize, interval: u16) -> u16
     requires { ⌜ at + bodySize ≤ length (now image) ⌝ }
     ensures { λ r. ⌜ r ≡ (if eqb interval (savedAt (now (image .entry)) at .logInterval .state) then savedAt (now (image .entry)) at .index else emptyIndex) ⌝ }
@@ -140,7 +140,7 @@ fn saved_device(image: &[u8], at: usize) -> Device
     powered(native, visible, initialized, life, settings, index)
 }
 
-// Copies the history of the entry at `at` into the record, where the interval is still its own.
+// Copies the history of the entry at `at` into the record, if the interval is still the entry's.
 fn put_history(device: &mut [u8], image: &[u8], at: usize, interval: u16)
     requires { ⌜ (length (now device) ≡ recordSize) × (at + bodySize ≤ length (now image)) ⌝ }
     ensures { λ _. ⌜ now (device .exit) ≡ (if eqb interval (savedAt (now (image .entry)) at .logInterval .state) then sets (now (device .entry)) (headSize + tableHeadSize) (savedAt (now (image .entry)) at .history) else now (device .entry)) ⌝ }

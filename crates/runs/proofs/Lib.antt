@@ -1,2 +1,2 @@
--- Laws of runs.
+-- Laws of runs of bytes.
 pub mod RunLaws

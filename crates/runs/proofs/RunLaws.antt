@@ -1,4 +1,4 @@
--- Laws of runs with one more byte at the end, as a loop that goes over them makes them.
+-- Laws of runs with one more byte at the end, as a loop over their bytes builds them.
 use mathlib.Core.Path.{_≡_, sym, ap, _∙_}
 use mathlib.Core.Bool.{_&&_, and-true, and-assoc}
 use Prim.Native.Nat.{ℕ, suc, _+_, _*_, _≤_, _<_}
@@ -39,7 +39,7 @@ repeat-more d p at size k e =
     let far : size * k ≡ length (repeated k p) = rw (length-repeated k p, e) (mul-comm size k) in
     rw far (sym (sets-append (repeated k p) p d at)) ∙ ap (sets d at) (repeated-snoc k p)
 
--- a number's bytes are those that it was read from
+-- a number's bytes are the bytes that it was read from
 le-part : (k : ℕ) (l : List ℕ) (at : ℕ) → Bytes l → at + k ≤ length l → le k (get k l at) ≡ part l at k
 le-part k l at b h =
     ext-getD 0 (le k (get k l at)) (part l at k) (length-le k (get k l at) ∙ sym (length-part l at k h)) (λ j q.

@@ -1,4 +1,4 @@
-// Runs of bytes: copied, set, compared and repeated.
+// Operations on runs of bytes: copy, set, compare and repeat.
 mod run;
 
 pub use run::copy_part;

@@ -1,4 +1,4 @@
-// Runs of bytes: copied, set, compared and repeated.
+// Operations on runs of bytes: copy, set, compare and repeat.
 use wire::put_u32;
 use wire::u32_at;
 ghost use mathlib.Core.Path.{_≡_};
@@ -20,7 +20,7 @@ pub fn copy_part(dst: &mut [u8], at: usize, src: &[u8], from: usize, n: usize)
     }
 }
 
-// Copies the n bytes from `from` to a place behind them in the same run.
+// Copies the n bytes from `from` to a place after them in the same run.
 pub fn copy_within(s: &mut [u8], to: usize, from: usize, n: usize)
     requires { ⌜ (from + n ≤ to) × (to + n ≤ length (now s)) ⌝ }
     ensures { λ _. ⌜ now (s .exit) ≡ sets (now (s .entry)) to (part (now (s .entry)) from n) ⌝ }
@@ -52,7 +52,7 @@ pub fn zero_part(s: &mut [u8], at: usize, n: usize)
     set_part(s, at, n, 0);
 }
 
-// Whether the n bytes from `from` are all 0. It looks at every byte: such a loop is done sixteen bytes at a time.
+// Whether the n bytes from `from` are all 0. It reads every byte: such a loop handles sixteen bytes at a time.
 pub fn is_zero(s: &[u8], from: usize, n: usize) -> bool
     requires { ⌜ from + n ≤ length (now s) ⌝ }
     ensures { λ r. ⌜ r ≡ allZero (part (now (s .entry)) from n) ⌝ }
@@ -66,7 +66,7 @@ pub fn is_zero(s: &[u8], from: usize, n: usize) -> bool
     all
 }
 
-// Whether the n bytes of a from `at` are those of b from `from`. It looks at every byte, as is_zero does.
+// Whether the n bytes of a from `at` are those of b from `from`. It reads every byte, as is_zero does.
 pub fn same_part(a: &[u8], at: usize, b: &[u8], from: usize, n: usize) -> bool
     requires { ⌜ (at + n ≤ length (now a)) × (from + n ≤ length (now b)) ⌝ }
     ensures { λ r. ⌜ r ≡ same (part (now (a .entry)) at n) (part (now (b .entry)) from n) ⌝ }
@@ -80,10 +80,10 @@ pub fn same_part(a: &[u8], at: usize, b: &[u8], from: usize, n: usize) -> bool
     all
 }
 
-// The bytes of a u32.
+// The number of bytes of a u32.
 const WORD: usize = 4;
 
-// Writes the four bytes from `from` so many times, one behind the other, from `to`.
+// Writes the four bytes from `from` the given number of times, one after the other, from `to`.
 pub fn repeat_within(s: &mut [u8], to: usize, from: usize, times: usize)
     requires { ⌜ (from + 4 ≤ to) × (to + 4 * times ≤ length (now s)) ⌝ }
     ensures { λ _. ⌜ now (s .exit) ≡ sets (now (s .entry)) to (repeated times (part (now (s .entry)) from 4)) ⌝ }

@@ -1,4 +1,4 @@
--- What a save stores, piece by piece, is the entry.
+-- What a save stores, piece by piece, is the entry that it adds.
 use mathlib.Core.Path.{_≡_, refl, sym, ap, _∙_}
 use mathlib.Core.Bool.{true}
 use Prim.Native.Nat.{ℕ, suc, _+_}
@@ -36,7 +36,7 @@ module _ (l : List ℕ) (at : ℕ) where
       → stores (placed at (featuresOf s)) (stores (placed at (sizesOf s)) (sets l at (zeros headSize))) ≡ sets l at (form headSize (headFields s))
   head-stored s = form-within headSize (headFields s) l at refl
 
--- head, table and trailer are the entry
+-- head, table and trailer together are the entry
 pub entry-stored : (r image : List ℕ) (used k : ℕ) → Bytes r → sound r ≡ true → k ≡ suc (entries used)
     → let s = savedFrom (decode r .device) in
     sets

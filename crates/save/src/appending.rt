@@ -1,4 +1,4 @@
-// A save: one entry, from the record's bytes.
+// How a save writes one entry, from the record's bytes.
 use image::TAG;
 use image::previous_place;
 use layout::BODY;

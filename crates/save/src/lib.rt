@@ -1,4 +1,4 @@
-// A save: one entry written behind the used length of the saved image (appending.rt).
+// A save: one entry written after the used length of the saved image (appending.rt).
 mod appending;
 
 pub use appending::put_entry;

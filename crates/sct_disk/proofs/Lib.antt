@@ -1,3 +1,3 @@
--- In reading order.
+-- Laws of take, serve, give and work, in reading order.
 pub mod StepExits
 pub mod VisibleLaws

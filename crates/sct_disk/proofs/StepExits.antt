@@ -1,4 +1,4 @@
--- Take, serve, give and work at their two exits: a refusal leaves all as it was, and what is done is the store's definition.
+-- Take, serve, give and work at their two exits: a refusal changes nothing, and a step that is done is the store's definition.
 use mathlib.Core.Path.{_≡_, refl, sym, ap, _∙_}
 use mathlib.Core.Bool.{true}
 use mathlib.Core.List.{List}

@@ -1,4 +1,4 @@
--- The hidden sectors are not handed on: a step on the visible part, and the hidden bytes behind it, are the step on the whole disk.
+-- The hidden sectors are not passed on: a step on the visible part, followed by the hidden bytes, is the step on the whole disk.
 use mathlib.Core.Path.{_≡_, refl, sym, ap, _∙_}
 use mathlib.Core.List.{List, _++_}
 use Prim.Native.Nat.{ℕ, _+_, _*_, _≤_, _<_}
@@ -23,7 +23,7 @@ use Rattle.store.proofs.FollowLaws.{slot-sized}
 use Rattle.fill.proofs.StepsLaws.{hidden-record, hidden-disk}
 use Rattle.refusals.proofs.CheckLaws.{DiskPassed, visible-native}
 
--- what is known where the visible part of a disk, up to e, is handed on
+-- what is known when the visible part of a disk, up to e, is passed on
 pub record VisiblePart (r a disk : List ℕ) (e : ℕ) : Type 0 where
   pub bytes : Bytes r
   pub passed : DiskPassed r a disk
@@ -52,7 +52,7 @@ module _ (r a disk : List ℕ) (e n : ℕ) (s : VisiblePart r a disk e) where
       ∙ hidden-disk r a (take e disk) (drop e disk) n (s .passed .areaSized) (s .bytes) (s .passed .isSound) (s .size)
       ∙ ap (λ (l : List ℕ). workDone r a l n .disk) (take-append-drop e disk)
 
--- ---- what is written lies on the visible disk
+-- ---- what is written is on the visible disk
 
 -- device and disk after a write on the visible part, and after the same write on the whole disk
 record WithHidden (visible hidden : List ℕ) (v whole : Volume) : Type 0 where

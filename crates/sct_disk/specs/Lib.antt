@@ -1,2 +1,2 @@
--- What a step reports beside the store's definitions.
+-- What a step reports in addition to the store's definitions.
 pub mod Result

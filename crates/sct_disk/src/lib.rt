@@ -1,4 +1,4 @@
-// The ten steps that the firmware calls: a port's (ports.rt), work (works.rt), the owner's (owner.rt), and those with a saved image
+// The ten steps that the firmware calls: those of a port (ports.rt), work (works.rt), those of the owner (owner.rt), and those with a saved image
 // (images.rt). The mailbox is a parameter of sct_take and sct_give only.
 mod images;
 mod owner;

@@ -1,4 +1,4 @@
-// The owner's steps on the record: lock, unlock, set V, sample.
+// The owner steps on the record: lock, unlock, set V, sample.
 ghost use mathlib.Core.Path.{_≡_};
 ghost use Rattle.store.specs.Entries.{lockBytes, unlockBytes, setVisibleBytes, sampleBytes};
 

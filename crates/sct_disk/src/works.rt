@@ -1,4 +1,4 @@
-// The work step.
+// The work step, and its result.
 use layout::answer;
 use refusals::visible_len;
 use refusals::work_refusal;
@@ -7,7 +7,7 @@ ghost use Prim.Native.Nat.{_+_, _*_};
 ghost use Rattle.store.specs.Entries.{workBytes};
 ghost use Rattle.sct_disk.specs.Result.{workResult};
 
-// What an answer of 1 counts in the result.
+// The weight of the answer in the result.
 const ANSWER: u64 = 4294967296;
 
 // The answer in bits 32 to 63, the sectors written in bits 0 to 31.

@@ -1,3 +1,3 @@
--- Laws of what carrying out a request leaves: a decision performed (PerformLaws), a slot served (ServeLaws).
+-- Laws of the buffers after a request is carried out: a decision performed (PerformLaws), a slot served (ServeLaws).
 pub mod PerformLaws
 pub mod ServeLaws

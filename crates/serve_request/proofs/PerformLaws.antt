@@ -1,4 +1,4 @@
--- A decision performed: the buffers afterwards, from what the called functions ensure.
+-- How a decision is performed: the buffers afterwards, from the contracts of the called functions.
 use mathlib.Core.Path.{_≡_, refl, sym, ap, _∙_}
 use mathlib.Core.List.{List}
 use Prim.Native.Nat.{ℕ, _*_, _≤_, _<_}
@@ -42,14 +42,14 @@ written-parts noWrite d sectors = refl
 written-parts (oneSector lba sector) d sectors = refl
 written-parts (newFill first end sector) d sectors = refl
 
--- the fill's sector stored first, and then the reply: the slot ends before the sector
+-- the fill's sector is stored first, and then the reply: the slot ends before the sector
 reply-last : (w : Writing) (a reply : List ℕ) (p : ℕ) → p < portCount → length reply ≡ mailboxSize
     → sets (withFillSector w a) (slotPlace p) reply ≡ withFillSector w (sets a (slotPlace p) reply)
 reply-last noWrite a reply p h size = refl
 reply-last (oneSector lba sector) a reply p h size = refl
 reply-last (newFill first end sector) a reply p h size = sets-apart reply sector a (slotPlace p) fillPlace (rw size (omega arith))
 
--- lengths stay
+-- the lengths are unchanged
 pub area-size : (w : Writing) (a : List ℕ) → length (withFillSector w a) ≡ length a
 area-size noWrite a = refl
 area-size (oneSector lba sector) a = refl
@@ -92,7 +92,7 @@ record-ready p e h r whole er =
       ap (λ (l : List ℕ). part l headSize sectorSize) er ∙ encoded-table c whole ∙ ap (λ (l : List ℕ). temperatureTable (asDevice e l)) (sym history),
     )
 
--- k on record, private area and disk, with e the device after what was written and h the history that the record then has
+-- k on record, private area and disk; e is the device after the write, and h is the history that the record then has
 module _ (p : ℕ) (k : code.Decision.Decision) (e : device.Device.Device) (g a disk : List ℕ) (port : p < portCount)
     (whole : length (historyAfter (k .empties) g) ≡ historySize) (change : (m : List ℕ) → Changed (deviceAfter (asWriting (k .writes) m)) (k .device) e) where
   abbrev m : List ℕ

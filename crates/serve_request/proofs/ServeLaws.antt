@@ -1,4 +1,4 @@
--- A slot served: the request decided of the record's device, and performed.
+-- How a slot is served: the request is decided for the record's device, and performed.
 use mathlib.Core.Path.{_≡_, sym, ap, _∙_, subst}
 use mathlib.Core.List.{List}
 use Prim.Native.Nat.{ℕ, _*_, _≤_}
@@ -32,7 +32,7 @@ entered-visible r a p d e b says =
     let same = ap (λ (c : Contents). c .device .visible) says in
     omega (arith, v, same)
 
--- sectors below V lie within the visible disk
+-- sectors below V are within the visible disk
 writes-within : (d : Device) (w : code.Writing.Writing) (m disk : List ℕ) → length disk ≡ sectorSize * d .visible → WritingValid d (asWriting w m) → WritesWithin (length disk) w
 writes-within d writes.Nothing m disk size v = tt
 writes-within d (writes.Sector lba) m disk size v = omega (arith, size, v .0)
@@ -53,7 +53,7 @@ module _ (r a disk : List ℕ) (p : ℕ) (d : device.Device.Device) (q : Request
   abbrev serving : Serving
   serving = record { port = p }
 
-  -- what is decided is the model's decision of the request q
+  -- what is decided is the model's decision for the request q
   decided : asDecision k m (historyOf r) ≡ decideRequest q serving m (decode r .device)
   decided = decides .same (historyOf r) ∙ ap (λ (c : Contents). decideRequest q serving m (c .device)) says
 

@@ -1,2 +1,2 @@
--- What carrying out a request leaves.
+-- The buffers after a request is carried out.
 pub mod Served

@@ -1,4 +1,4 @@
--- What carrying out a request leaves, and what it needs.
+-- The buffers after a request is carried out, and what that requires.
 use mathlib.Core.Path.{_≡_}
 use mathlib.Core.Bool.{true}
 use mathlib.Core.List.{List}
@@ -14,7 +14,7 @@ use Rattle.record_write.specs.Framed.{Framed}
 use Rattle.decision.specs.declared.decision as code
 use Rattle.effect.specs.Effects.{WritesWithin, SendsWithin}
 
--- What `performed` of the store gives for a decision: of the record's contents it takes the stages alone.
+-- What the store's `performed` gives for a decision: of the record's contents it uses only the stages.
 abbrev pub served : ℕ → Decision → List Stage → List ℕ → List ℕ → ServeAfter
 served p k stages a disk = performed p k (record { device = k .device; stages = stages }) a disk
 
@@ -23,7 +23,7 @@ pub record Served (p : ℕ) (k : Decision) (stages : List Stage) (a disk newReco
   pub areaBytes : newArea ≡ served p k stages a disk .privateArea
   pub diskBytes : newDisk ≡ served p k stages a disk .disk
 
--- needed to perform a decision
+-- required to perform a decision
 pub record Performable (r a disk : List ℕ) (p : ℕ) (k : code.Decision.Decision) : Type 0 where
   pub framed : Framed r
   pub size : length a ≡ privateSize
@@ -32,7 +32,7 @@ pub record Performable (r a disk : List ℕ) (p : ℕ) (k : code.Decision.Decisi
   pub writesWithin : WritesWithin (length disk) (k .writes)
   pub sendsWithin : SendsWithin (length disk) (k .sends)
 
--- needed to serve a slot
+-- required to serve a slot
 pub record Entered (r a : List ℕ) (p : ℕ) : Type 0 where
   pub soundRecord : sound r ≡ true
   pub size : length a ≡ privateSize

@@ -1,5 +1,5 @@
-// A held request carried out on record, private area and visible disk, and its reply left in the slot: a decision performed (performing.rt), and
-// the slot served (serving.rt).
+// How a held request is carried out on record, private area and visible disk, and its reply left in the slot: performing a decision
+// (performing.rt), and serving the slot (serving.rt).
 mod performing;
 mod serving;
 

@@ -1,4 +1,4 @@
-// A decision performed: first what it writes, then the record, then the reply.
+// How a decision is performed: first what it writes, then the record, then the reply.
 use decision::Decision;
 use effect::device_after;
 use effect::finish;

@@ -1,4 +1,4 @@
-// The request that a slot holds, decided and performed.
+// How the request that a slot holds is decided and performed.
 use crate::performing::perform;
 use layout::MAILBOX;
 ghost use mathlib.Core.Path.{_≡_};
@@ -10,7 +10,7 @@ ghost use Rattle.store.specs.Record.{decode};
 ghost use Rattle.store.specs.Store.{slotBytes};
 ghost use Rattle.serve_request.specs.Served.{Served, Entered};
 
-// "answers the held request from the slot alone and leaves the reply in the slot". The disk is its visible part.
+// "answers the held request from the slot alone and leaves the reply in the slot". `disk` is only the visible part.
 pub fn serve(device: &mut [u8], area: &mut [u8], disk: &mut [u8], p: usize)
     requires { ⌜ Entered (now device) (now area) p × (length (now disk) ≡ sectorSize * decode (now device) .device .visible) ⌝ }
     ensures { λ _. ⌜ Served p (decide (record { port = p }) (slotBytes p (now (area .entry))) (decode (now (device .entry)) .device)) (decode (now (device .entry)) .stages) (now (area .entry)) (now (disk .entry)) (now (device .exit)) (now (area .exit)) (now (disk .exit)) ⌝ }

@@ -37,7 +37,7 @@ reordering-set writeCache f s e g = absurd (let z : _≡_ {A = ℕ} 0 1 = cc in 
 reordering-set reordering f s e g = refl
 reordering-set logInterval f s e g = absurd (let z : _≡_ {A = ℕ} 0 1 = cc in omega arith)
 
--- ---- what a set of a feature does beside: nothing, or the history is emptied
+-- ---- what else a set of a feature does: nothing, or it empties the history
 
 pub other-kept : (name : FeatureName) (d : Device) (h : List ℕ) → isInterval name ≡ false → (historyAfter (isInterval name) h ≡ h) × (afterFeature name d ≡ d)
 other-kept writeCache d h e = (refl, refl)

@@ -1,4 +1,4 @@
--- Timers and features by cases, and a struct that says the device of another one with a feature set.
+-- Timers and features by cases, and a struct that means the device of another struct with a feature set.
 use mathlib.Core.Path.{_≡_}
 use mathlib.Core.Bool.{Bool, true, false}
 use mathlib.Core.List.{List}
@@ -25,7 +25,7 @@ isInterval writeCache = false
 isInterval reordering = false
 isInterval logInterval = true
 
--- r says d with a feature set, with the history that is then in the record
+-- r means d with a feature set, together with the history that is then in the record
 pub record FeatureSet (name : FeatureName) (state : ℕ) (persistent : Bool) (d r : code.Device.Device) : Type 0 where
   pub device :
       (h : List ℕ)

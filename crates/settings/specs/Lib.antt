@@ -1,2 +1,2 @@
--- Timers and features.
+-- The definitions of timers and features.
 pub mod Features

@@ -1,4 +1,4 @@
-// The recovery timers and the features, by value: read and set.
+// How the recovery timers and the features are read and set, by value.
 mod settings;
 
 pub use settings::feature;

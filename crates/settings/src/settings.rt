@@ -1,4 +1,4 @@
-// The recovery timers and the features.
+// How the recovery timers and the features are read and set.
 use layout::EMPTY_INDEX;
 use record::Device;
 use record::Direction;
@@ -12,7 +12,7 @@ ghost use Rattle.record.specs.DeviceMeaning.{asFeature, asSettings, asDirection
 ghost use Rattle.device_update.specs.Change.{Changed};
 ghost use Rattle.settings.specs.Features.{FeatureSet, isRead, isCache, isInterval};
 
-// The recovery timer of reads or of writes.
+// The recovery timer for reads or for writes.
 pub fn timer(dir: Direction, s: Settings) -> u16
     ensures { λ r. ⌜ r ≡ timer (asDirection dir) (asSettings s) ⌝ }
 {
@@ -43,7 +43,7 @@ fn with_timer(dir: Direction, n: u16, s: Settings) -> Settings
     t
 }
 
-// Sets the recovery timer of reads or of writes to n times 100 ms.
+// Sets the recovery timer for reads or for writes to n times 100 ms.
 pub fn set_timer(d: Device, dir: Direction, n: u16) -> Device
     ensures { λ r. ⌜ Changed (λ x. withSettings (withTimer (asDirection dir) n (x .settings)) x) d r ⌝ }
 {
@@ -102,7 +102,7 @@ fn with_feature(name: FeatureName, f: Feature, s: Settings) -> Settings
     t
 }
 
-// Sets a feature. "Any set of feature 3 empties the temperature history": the index and minutes here; the caller empties the history in the record's bytes.
+// Sets a feature. "Any set of feature 3 empties the temperature history": index and minutes here; the caller empties the record's history.
 pub fn set_feature(d: Device, name: FeatureName, state: u16, persistent: bool) -> Device
     ensures { λ r. ⌜ FeatureSet (asFeatureName name) state persistent d r ⌝ }
 {

@@ -1,3 +1,3 @@
--- In reading order.
+-- Laws of a sample, in reading order.
 pub mod ThermalLaws
 pub mod SampleLaws

@@ -1,4 +1,4 @@
--- A sample on the record's bytes: its history holds the sample where it is logged, and what the struct says is written beside it.
+-- A sample on the record's bytes: its history holds the sample if it is logged, and the values of the struct are written as well.
 use mathlib.Core.Path.{_≡_, refl, sym, ap, _∙_}
 use mathlib.Core.Bool.{Bool, true, false, not}
 use mathlib.Core.List.{List}
@@ -44,7 +44,7 @@ pub sampled-says : (reading : ℕ) (d : code.Device.Device) (t : code.Thermal.Th
 unfolding sample
 sampled-says reading d t s = record { device = λ h. ap (λ (x : Thermal). withThermal x (asDevice d h)) (s .thermal h); stages = refl }
 
--- the next place is one of the history's
+-- the next place is within the history
 pub next-within : (index : ℕ) → index < historySize → nextIndex index < historySize
 next-within index h = go (eqb (suc index) historySize) refl
   where
@@ -56,7 +56,7 @@ module _ (t : code.Thermal.Thermal) (interval reading : ℕ) (r : List ℕ) wher
   abbrev later : Bool
   later = ltb (suc (t .minutes)) interval
 
-  -- `if !is_logged(..)` taken, and left
+  -- after `if !is_logged(..)` was taken, and after it was not taken
   pub log-later : (l : Bool) → l ≡ not later → not l ≡ true → r ≡ loggedRecord t interval reading r
   log-later l e n = rw (twice later (sym (ap not e) ∙ n))
     where

@@ -1,4 +1,4 @@
--- Laws of temperatures as the code compares and counts them.
+-- Laws of how the code compares temperatures and counts minutes.
 use mathlib.Core.Path.{_≡_, refl, sym}
 use mathlib.Core.Bool.{Bool, true, false, not}
 use Prim.Native.Nat.{ℕ, suc, _+_, _-_, _≤_, _<_}
@@ -15,7 +15,7 @@ use Rattle.model.specs.Temperature.{signed, newMaximum, nextIndex, sampled}
 use Rattle.record.specs.declared.device as code
 use Rattle.temperature.specs.Sampled.{shifted, Sampled}
 
--- the order of the moved bytes is the order of the signed values
+-- the order of the shifted bytes is the order of the signed values
 pub shifted-order : (a b : ℕ) → a < 256 → b < 256 → leZ (signed a) (signed b) ≡ leb (shifted a) (shifted b)
 shifted-order a b p q = go (ltb a 128) refl (ltb b 128) refl
   where
@@ -69,7 +69,7 @@ index-last i e = rw (eq-eqb (suc i) historySize (omega arith))
 pub index-more : (i : ℕ) → (i ≡ historySize - 1 → ⊥) → i + 1 ≡ nextIndex i
 index-more i ne = rw (ne-eqb (suc i) historySize (λ e. ne (omega arith))) (omega arith)
 
--- a minute is logged where it reaches the interval
+-- a minute's sample is logged if it reaches the interval
 pub logged-test : (minutes interval : ℕ) → leb interval (minutes + 1) ≡ not (ltb (suc minutes) interval)
 logged-test minutes interval = go (ltb (suc minutes) interval) refl
   where

@@ -1,2 +1,2 @@
--- The device after a sample.
+-- The definitions of the device and the record after a sample.
 pub mod Sampled

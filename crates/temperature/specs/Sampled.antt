@@ -11,25 +11,25 @@ use Rattle.store.specs.Areas.{headSize}
 use Rattle.record.specs.DeviceMeaning.{asThermal, asDevice, stagesOf}
 use Rattle.record.specs.declared.device as code
 
--- a two's complement byte as a place in the order of temperatures, from 0
+-- a two's complement byte as its position in the order of temperatures, from 0
 abbrev pub shifted : ℕ → ℕ
 shifted b = if ltb b 128 then b + 128 else b - 128
 
--- the history after a sample: the sample stands at the next place, where it is logged
+-- the history after a sample: the sample is at the next place, if it is logged
 abbrev pub loggedHistory : code.Thermal.Thermal → ℕ → ℕ → List ℕ → List ℕ
 loggedHistory t interval sample h = if ltb (suc (t .minutes)) interval then h else set h (nextIndex (t .index)) sample
 
--- r says t after a sample
+-- r means t after a sample
 pub record Sampled (t : code.Thermal.Thermal) (interval sample : ℕ) (r : code.Thermal.Thermal) : Type 0 where
   pub thermal : (h : List ℕ) → asThermal r (loggedHistory t interval sample h) ≡ sampled interval sample (asThermal t h)
 
--- e says d after a sample, with the history that is then in the record
+-- e means d after a sample, together with the history that is then in the record
 pub record SampledDevice (reading : ℕ) (d e : code.Device.Device) : Type 0 where
   pub device :
       (h : List ℕ) → asDevice e (loggedHistory (d .thermal) (d .settings .«log_interval» .state) reading h) ≡ sample reading (asDevice d h)
   pub stages : stagesOf (e .slots) ≡ stagesOf (d .slots)
 
--- the record with a sample in its history, where it is logged
+-- the record with a sample in its history, if it is logged
 abbrev pub loggedRecord : code.Thermal.Thermal → ℕ → ℕ → List ℕ → List ℕ
 loggedRecord t interval reading r =
     if ltb (suc (t .minutes)) interval then r else set r (headSize + tableHeadSize + nextIndex (t .index)) reading

@@ -1,4 +1,4 @@
-// A temperature sample: the temperatures by value, then the record's bytes with its history.
+// A temperature sample: the temperatures by value (thermal.rt), then the record's bytes with its history (logging.rt).
 mod logging;
 mod thermal;
 

@@ -1,4 +1,4 @@
-// A temperature sampled, on the record's bytes.
+// How a temperature sample changes the record's bytes.
 use crate::thermal::is_logged;
 use crate::thermal::next_index;
 use crate::thermal::sampled_thermal;
@@ -15,7 +15,7 @@ ghost use Rattle.store.specs.Entries.{ownerDone};
 ghost use Rattle.model.specs.Owner.{sample};
 ghost use Rattle.temperature.specs.Sampled.{SampledDevice, loggedRecord};
 
-// The device after a sample; the history is the record's.
+// The device after a sample; the history is in the record.
 fn sampled_device(d: Device, reading: u8) -> Device
     requires { ⌜ (d .thermal .minutes < d .settings .«log_interval» .state) × (d .thermal .index < historySize) ⌝ }
     ensures { λ e. ⌜ SampledDevice reading d e ⌝ }
@@ -38,7 +38,7 @@ fn log_sample(device: &mut [u8], t: Thermal, interval: u16, reading: u8)
     record_write::log_reading(device, next_index(t.index) as usize, reading);
 }
 
-// "One sample is one minute." The reading goes into the record's history where it is logged, then the device into its fields.
+// "One sample is one minute." The reading goes into the record's history if it is logged, then the device is written into its fields.
 pub fn sample(device: &mut [u8], reading: u8)
     requires { ⌜ sound (now device) ≡ true ⌝ }
     ensures { λ _. ⌜ now (device .exit) ≡ ownerDone (sample reading) (now (device .entry)) .recordArea ⌝ }

@@ -1,4 +1,4 @@
-// Temperatures: a sample, by value. A reading that is logged goes into the record's history, which the caller writes.
+// How a sample changes the temperatures, by value. A reading that is logged goes into the record's history, which the caller writes.
 use layout::LAST_INDEX;
 use layout::MISSING;
 use record::Thermal;
@@ -13,7 +13,7 @@ ghost use Rattle.temperature.specs.Sampled.{shifted, Sampled};
 // The sign bit of a two's complement byte.
 const SIGN: u8 = 0x80;
 
-// A two's complement byte, moved so that the order of the bytes is the order of the temperatures.
+// A two's complement byte, shifted so that the order of the bytes is the order of the temperatures.
 fn shifted(b: u8) -> u8
     ensures { λ r. ⌜ r ≡ shifted b ⌝ }
 {
@@ -52,7 +52,7 @@ pub fn is_logged(minutes: u16, interval: u16) -> bool
     minutes + 1 >= interval
 }
 
-// The temperatures, index and minutes after a sample: "When the minutes reach the interval, the sample (missing too) is logged and the minutes restart."
+// The values after a sample: "When the minutes reach the interval, the sample (missing too) is logged and the minutes restart."
 pub fn sampled_thermal(t: Thermal, interval: u16, sample: u8) -> Thermal
     requires { ⌜ (t .minutes < interval) × (t .index < historySize) ⌝ }
     ensures { λ r. ⌜ Sampled t interval sample r ⌝ }

@@ -1,4 +1,4 @@
--- Laws of runs of bytes: what is stored is a byte, what is read fits its width, and the test of sameness.
+-- Laws of runs of bytes: what is stored is a byte, what is read fits its width, and the test for equality.
 use mathlib.Core.Path.{_≡_, refl, sym, ap, ap₂, _∙_, subst}
 use mathlib.Core.Bool.{Bool, true, false, _&&_}
 use Prim.Native.Nat.{ℕ, zero, suc, _+_, _-_, _*_, _/_, _%_, _^_, _≤_, _<_}
@@ -86,7 +86,7 @@ unfolding get
 get-fits zero l at b = omega arith
 get-fits (suc k) l at b = rw pow-succ' (omega (arith, b at, get-fits k l (suc at) b))
 
--- ---- sameness
+-- ---- equality
 
 pub same-refl : (l : List ℕ) → same l l ≡ true
 unfolding same
@@ -112,7 +112,7 @@ all-zero-true [] h i = refl
 all-zero-true (x ∷ l) h zero = eqb-true x 0 (and-left (eqb x 0) (allZero l) h)
 all-zero-true (x ∷ l) h (suc i) = all-zero-true l (and-right (eqb x 0) (allZero l) h) i
 
--- .. and a run whose every byte is 0 is one
+-- .. and a run in which every byte is 0 is a run of zeros
 pub zero-all-true : (l : List ℕ) → ((i : ℕ) → i < length l → getD l i 0 ≡ 0) → allZero l ≡ true
 unfolding allZero
 zero-all-true [] h = refl

@@ -20,7 +20,7 @@ and-right false b h = cc
 pub and-both : (a b : Bool) → a ≡ true → b ≡ true → (a && b) ≡ true
 and-both a b p q = rw (p, q)
 
--- what the callee ensures of a test, where `if !test() { return .. }` was left, and where it was taken
+-- what the callee ensures about a test, after `if !test() { return .. }` was not taken, and after it was taken
 pub passed : {t b : Bool} → t ≡ b → not t ≡ false → b ≡ true
 passed {t} e h = sym e ∙ not-false t h
 
@@ -59,19 +59,19 @@ abbrev pub Numbered : ℕ → List Check → Type 0
 Numbered bound [] = Unit {0}
 Numbered bound (c ∷ cs) = (0 < c .1) × (c .1 ≤ bound) × Numbered bound cs
 
--- what is chosen by a number: b where a check failed ..
+-- what is chosen by a number: b if a check failed ..
 pub passed-not : {A : Type 0} (n : ℕ) (a b : A) → (n ≡ 0 → ⊥) → ifPassed n a b ≡ b
 passed-not zero a b some = absurd (some refl)
 passed-not (suc n) a b some = refl
 
--- .. the refusal with that number, and a where none failed
+-- .. the refusal with that number, and a if none failed
 pub chosen-refusal : {A : Type 0} (n m : ℕ) (a : A) (refusal : ℕ → A) → n ≡ m → (n ≡ 0 → ⊥) → ifPassed m a (refusal m) ≡ refusal n
 chosen-refusal n m a refusal e some = ap (λ (k : ℕ). ifPassed k a (refusal k)) (sym e) ∙ passed-not n a (refusal n) some
 
 pub chosen-done : {A : Type 0} (n m : ℕ) (a b : A) → n ≡ m → n ≡ 0 → ifPassed m a b ≡ a
 chosen-done n m a b e z = ap (λ (k : ℕ). ifPassed k a b) (sym e ∙ z)
 
--- where the number is 0, every test holds
+-- if the number is 0, every test holds
 pub all-pass : (bound : ℕ) (cs : List Check) → Numbered bound cs → firstFailed cs ≡ 0 → AllPass cs
 all-pass bound [] n e = tt
 all-pass bound (c ∷ cs) n e = go (c .0) refl e (all-pass bound cs (n .2))
@@ -80,12 +80,12 @@ all-pass bound (c ∷ cs) n e = go (c .0) refl e (all-pass bound cs (n .2))
     go true q e f = (q, f e)
     go false q e f = absurd (omega (arith, n .0))
 
--- where every test holds, the number is 0
+-- if every test holds, the number is 0
 pub pass-all : (cs : List Check) → AllPass cs → firstFailed cs ≡ 0
 pass-all [] p = refl
 pass-all (c ∷ cs) p = rw (p .0) (pass-all cs (p .1))
 
--- the number is one of the list's, or 0
+-- the number is at most the bound on the list's numbers
 pub first-bound : (bound : ℕ) (cs : List Check) → Numbered bound cs → firstFailed cs ≤ bound
 first-bound bound [] n = omega arith
 first-bound bound (c ∷ cs) n = go (c .0) (first-bound bound cs (n .2))
@@ -94,7 +94,7 @@ first-bound bound (c ∷ cs) n = go (c .0) (first-bound bound cs (n .2))
     go true h = h
     go false h = n .1
 
--- THE LAW of a table of checks: the first row that fails decides, whatever stands behind it.
+-- THE LAW of a table of checks: the first row that fails decides, whatever follows it.
 pub first-decides : (before : List Check) (number : ℕ) (behind : List Check) → AllPass before
     → firstFailed (before ++ (false, number) ∷ behind) ≡ number
 first-decides [] number behind p = refl
@@ -114,7 +114,7 @@ below-all (suc n) f h i b = go (decLt i n) (below-all n f (and-right (f n) (belo
     go (yes k) rest = rest k
     go (no k) rest = let last : i ≡ n = omega arith in ap f last ∙ and-left (f n) (below n f) h
 
--- two tests that follow from each other are the same
+-- two tests that imply each other are the same
 pub tests-same : (a b : Bool) → (a ≡ true → b ≡ true) → (b ≡ true → a ≡ true) → a ≡ b
 tests-same true b f g = sym (f refl)
 tests-same false true f g = g refl

@@ -1,4 +1,4 @@
--- A run of bytes is the form of the fields that are read from it, where every other byte of it is 0.
+-- A run of bytes is the form of the fields that are read from it, if every other byte of it is 0.
 use mathlib.Core.Path.{_≡_, refl, sym, ap, _∙_}
 use mathlib.Core.Bool.{Bool, true, false, _&&_, _||_}
 use Prim.Native.Nat.{ℕ, zero, suc, _+_, _-_, _*_, _/_, _%_, _^_, _≤_, _<_}
@@ -19,7 +19,7 @@ use Rattle.wire.proofs.NumbersLaws.{getD-sets-before, getD-sets-after, 
 use Rattle.wire.proofs.PartsLaws.{length-zeros, getD-zeros}
 use Rattle.wire.proofs.LayoutLaws.{length-form, ordered-end}
 
--- the bytes of a number that is read are the bytes that stand there
+-- the bytes of a number that is read are the bytes at its place
 pub le-get : (k : ℕ) (s : List ℕ) (at j : ℕ) → Bytes s → j < k → getD (le k (get k s at)) j 0 ≡ getD s (at + j) 0
 unfolding le get
 le-get zero s at j b h = absurd (omega arith)
@@ -44,7 +44,7 @@ put-in w z at v i fits low high =
     ap (λ (j : ℕ). getD (sets z at (le w v)) j 0) (sym place)
     ∙ getD-sets-in (le w v) z at (i - at) (rw (length-le w v) (omega arith)) (rw (length-le w v) fits)
 
--- .. and where the number is read from s at that place
+-- .. and if the number is the one read from s at that place
 put-read : (w : ℕ) (s z : List ℕ) (at v i : ℕ) → Bytes s → get w s at ≡ v → at + w ≤ length z → at ≤ i → i < at + w
     → getD (put w z at v) i 0 ≡ getD s i 0
 put-read w s z at v i b e fits low high =
@@ -62,7 +62,7 @@ put-after : (w : ℕ) (z : List ℕ) (at v i : ℕ) → at + w ≤ i → getD (p
 unfolding put
 put-after w z at v i h = getD-sets-after (le w v) z at i (rw (length-le w v) h)
 
--- field by field: where the stores to come leave a byte, it is s's
+-- field by field: if the fields are read from s, and s has the run's bytes elsewhere, then s is the run with the fields stored
 stores-read : (fs : List Field) (from n : ℕ) (s z : List ℕ) → Bytes s → ordered from n fs ≡ true → n ≤ length z → Reads fs s
     → ((i : ℕ) → outside fs i ≡ true → getD s i 0 ≡ getD z i 0) → (i : ℕ) → getD s i 0 ≡ getD (stores fs z) i 0
 stores-read [] from n s z b o h r rest i = rest i refl
@@ -122,7 +122,7 @@ stores-same (f ∷ fs) from n s t o h e rest =
             ∙ rest i (rw (le-ltb i (f .0) (omega arith), le-leb (f .0 + f .1) i (omega arith)) out)
             ∙ sym (put-after (f .1) t (f .0) (f .2) i (omega arith))
 
--- the fields stored over a run that is 0 at every other place are the form
+-- the fields stored over a run that is 0 at every other place give the form
 pub form-stored : (n : ℕ) (fs : List Field) (s : List ℕ) → length s ≡ n → ordered 0 n fs ≡ true
     → ((i : ℕ) → outside fs i ≡ true → getD s i 0 ≡ 0) → stores fs s ≡ form n fs
 unfolding form

@@ -1,4 +1,4 @@
--- THE LAW of layouts: what is stored is read back, and every other byte stays.
+-- THE LAW of layouts: what is stored is read back, and every other byte is unchanged.
 use mathlib.Core.Path.{_≡_, refl, sym, ap, _∙_}
 use mathlib.Core.Bool.{Bool, true, false, _&&_, _||_}
 use Prim.Native.Nat.{ℕ, zero, suc, _+_, _^_, _≤_, _<_}
@@ -22,7 +22,7 @@ pub length-form : (n : ℕ) (fs : List Field) → length (form n fs) ≡ n
 unfolding form
 length-form n fs = length-stores fs (zeros n) ∙ length-zeros n
 
--- the last field ends within the n bytes
+-- the fields are ordered from a place within the n bytes
 pub ordered-end : (fs : List Field) (from n : ℕ) → ordered from n fs ≡ true → from ≤ n
 ordered-end [] from n h = leb-true from n h
 ordered-end (f ∷ fs) from n h =
@@ -32,7 +32,7 @@ ordered-end (f ∷ fs) from n h =
       ordered-end fs (f .0 + f .1) n (and-right (leb from (f .0)) (ordered (f .0 + f .1) n fs) h),
     )
 
--- stores from a place on leave the numbers before it
+-- stores from a place on do not change the numbers before it
 get-stores : (fs : List Field) (from n : ℕ) (s : List ℕ) (k at : ℕ) → ordered from n fs ≡ true → at + k ≤ from → get k (stores fs s) at ≡ get k s at
 unfolding put
 get-stores [] from n s k at o h = refl
@@ -56,7 +56,7 @@ pub reads-form : (n : ℕ) (fs : List Field) → ordered 0 n fs ≡ true → Fit
 unfolding form
 reads-form n fs o f = reads-stores fs 0 n (zeros n) o (rw (length-zeros n) (omega arith)) f
 
--- every other byte stays
+-- every other byte is unchanged
 pub stores-outside : (fs : List Field) (s : List ℕ) (i : ℕ) → outside fs i ≡ true → getD (stores fs s) i 0 ≡ getD s i 0
 unfolding put
 stores-outside [] s i h = refl

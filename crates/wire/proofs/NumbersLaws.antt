@@ -1,4 +1,4 @@
--- Laws of numbers in runs of bytes: what is stored is read back, and a store leaves the rest.
+-- Laws of numbers in runs of bytes: what is stored is read back, and a store does not change the rest.
 use mathlib.Core.Path.{_≡_, refl, sym, ap, _∙_}
 use Prim.Native.Nat.{ℕ, zero, suc, _+_, _*_, _/_, _%_, _^_, _≤_, _<_}
 use native.Mathlib.Nat.{suc-add, add-suc, zero-add, add-zero, pow-succ', mul-add, mul-assoc, mod-add-div, mod-lt}
@@ -87,7 +87,7 @@ get-put (suc k) l at v h f =
     below : (k v : ℕ) → v < 256 ^ suc k → v / 256 < 256 ^ k
     below k v f = let g : v < 256 * 256 ^ k = rw pow-succ' at f in omega arith
 
--- a number stored as its low j bytes and then its k high ones
+-- a number stored as its j low bytes and then its k high ones
 put-join : (j k : ℕ) (l : List ℕ) (at low high : ℕ) → low < 256 ^ j → put k (put j l at low) (at + j) high ≡ put (j + k) l at (low + 256 ^ j * high)
 unfolding put le
 put-join zero k l at low high h =

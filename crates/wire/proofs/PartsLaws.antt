@@ -31,7 +31,7 @@ getD-zeros (suc n) (suc i) = getD-zeros n i
 pub getD-part : (l : List ℕ) (b n i : ℕ) → i < n → getD (part l b n) i 0 ≡ getD l (b + i) 0
 getD-part l b n i h = getD-take n (drop b l) i 0 h ∙ getD-drop b l i 0
 
--- ---- a part after a run of stores elsewhere, and just there
+-- ---- a part after a run of stores elsewhere, and in the same place
 
 pub drop-sets-after : (vs l : List ℕ) (i b : ℕ) → i + length vs ≤ b → drop b (sets l i vs) ≡ drop b l
 drop-sets-after [] l i b h = refl
@@ -93,7 +93,7 @@ pub put-part : (k v : ℕ) (l : List ℕ) (b n i : ℕ) → i + k ≤ n → part
 unfolding put
 put-part k v l b n i h = sets-part (le k v) l b n i (rw (length-le k v) h)
 
--- ---- two runs, one behind the other
+-- ---- two runs, one after the other
 
 pub part-append-left : (xs ys : List ℕ) (n : ℕ) → length xs ≡ n → part (xs ++ ys) 0 n ≡ xs
 part-append-left xs ys n e = take-at xs ys n e
@@ -139,7 +139,7 @@ pub sets-append : (xs ys l : List ℕ) (i : ℕ) → sets l i (xs ++ ys) ≡ set
 sets-append [] ys l i = rw (add-zero i)
 sets-append (x ∷ xs) ys l i = rw (add-suc i (length xs), ← suc-add i (length xs)) (sets-append xs ys (set l i x) (suc i))
 
--- ---- the same run several times
+-- ---- the same run repeated
 
 pub length-repeated : (n : ℕ) (l : List ℕ) → length (repeated n l) ≡ n * length l
 unfolding repeated

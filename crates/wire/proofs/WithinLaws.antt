@@ -1,4 +1,4 @@
--- Stores inside a run that was stored before: the run is changed first, and stored then.
+-- Stores inside a run that was stored before: the same as changing the run first and then storing it.
 use mathlib.Core.Path.{_≡_, refl, sym, ap, _∙_}
 use mathlib.Core.Bool.{Bool, true}
 use Prim.Native.Nat.{ℕ, zero, suc, _+_, _≤_, _<_}
@@ -23,7 +23,7 @@ set-sets-before (x ∷ xs) l at i a h =
     set-sets-before xs (set l at x) (suc at) i a (omega arith)
     ∙ ap (λ (m : List ℕ). sets m (suc at) xs) (set-comm l at i x a (λ e. omega arith))
 
--- two runs apart, in either order
+-- two runs that do not overlap, in either order
 pub sets-apart : (vs ws l : List ℕ) (i j : ℕ) → i + length vs ≤ j → sets (sets l j ws) i vs ≡ sets (sets l i vs) j ws
 sets-apart [] ws l i j h = refl
 sets-apart (v ∷ vs) ws l i j h =
@@ -56,7 +56,7 @@ stores-within (f ∷ fs) from n at l xs o h =
     ap (stores (placed at fs)) (put-within (f .1) (f .2) xs l at (f .0) (omega arith))
     ∙ stores-within fs (f .0 + f .1) n at l (put (f .1) xs (f .0) (f .2)) o′ (rw (length-put (f .1) xs (f .0) (f .2)) h)
 
--- a run stored, and another behind it
+-- a run stored, and another after it
 pub sets-then : (xs ys l : List ℕ) (at n : ℕ) → length xs ≡ n → sets (sets l at xs) (at + n) ys ≡ sets l at (xs ++ ys)
 sets-then xs ys l at n e = ap (λ (m : ℕ). sets (sets l at xs) (at + m) ys) (sym e) ∙ sym (sets-append xs ys l at)
 
@@ -75,7 +75,7 @@ put-again k l at v w =
     ∙ sets-within (le k w) (le k v) l at 0 (rw (length-le k w, length-le k v) (omega arith))
     ∙ ap (sets l at) (sets-whole (le k w) (le k v) k (length-le k w) (length-le k v))
 
--- behind a field stand other fields: they are stored before or after it
+-- the fields after a field can be stored before or after it
 put-early : (hs : List Field) (from n k at w : ℕ) (l : List ℕ) → ordered from n hs ≡ true → at + k ≤ from
     → put k (stores hs l) at w ≡ stores hs (put k l at w)
 put-early [] from n k at w l o h = refl
@@ -87,7 +87,7 @@ put-early (f ∷ hs) from n k at w l o h =
     apart : from ≤ f .0 → put k (put (f .1) l (f .0) (f .2)) at w ≡ put (f .1) (put k l at w) (f .0) (f .2)
     apart b = unfold put in (sets-apart (le k w) (le (f .1) (f .2)) l at (f .0) (rw (length-le k w) (omega arith)))
 
--- THE LAW of a field stored again: it is that field with the new value
+-- THE LAW of a field stored again: the result has that field with the new value
 pub field-set : (gs hs : List Field) (n k at v w : ℕ) (l : List ℕ) → ordered (at + k) n hs ≡ true
     → put k (stores (gs ++ (at, k, v) ∷ hs) l) at w ≡ stores (gs ++ (at, k, w) ∷ hs) l
 field-set gs hs n k at v w l o =

@@ -1,4 +1,4 @@
--- Runs of bytes: every element is below 256; whether two runs are the same; whether a run is all zeros.
+-- Runs of bytes: whether every element is below 256; whether two runs are the same; whether a run is all zeros.
 use mathlib.Core.Bool.{Bool, true, false, _&&_}
 use Prim.Native.Nat.{ℕ, _<_}
 use mathlib.Core.List.{List, [], _∷_}

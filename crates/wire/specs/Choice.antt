@@ -1,4 +1,4 @@
--- Choosing by a test, and the first of several tests that fails.
+-- A choice by a test, and the first of several tests that fails.
 use mathlib.Core.Bool.{Bool, true, false, _&&_}
 use Prim.Native.Nat.{ℕ, zero, suc}
 use mathlib.Core.List.{List, [], _∷_}
@@ -18,11 +18,11 @@ bit false = 0
 abbrev pub between : ℕ → ℕ → ℕ → Bool
 between low x high = leb low x && leb x high
 
--- A test that has to hold, and the number given where it does not.
+-- A test that must hold, and the number given if it does not.
 abbrev pub Check : Type 0
 Check = Bool × ℕ
 
--- The number of the first check that fails; 0 where none does.
+-- The number of the first check that fails; 0 if none does.
 abbrev pub firstFailed : List Check → ℕ
 firstFailed [] = 0
 firstFailed (c ∷ cs) = if c .0 then firstFailed cs else c .1

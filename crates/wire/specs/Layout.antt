@@ -7,7 +7,7 @@ use lib.Dec.{leb, ltb}
 use Rattle.wire.specs.Numbers.{get, put}
 use Rattle.wire.specs.Parts.{zeros}
 
--- where a number stands, how many bytes it takes, and its value
+-- the place of a number, how many bytes it takes, and its value
 abbrev pub Field : Type 0
 Field = ℕ × ℕ × ℕ
 
@@ -16,7 +16,7 @@ abbrev pub stores : List Field → List ℕ → List ℕ
 stores [] s = s
 stores (f ∷ fs) s = stores fs (put (f .1) s (f .0) (f .2))
 
--- the fields, each so many bytes further on
+-- the fields, each moved by that many bytes
 abbrev pub placed : ℕ → List Field → List Field
 placed at [] = []
 placed at (f ∷ fs) = (at + f .0, f .1, f .2) ∷ placed at fs
@@ -25,7 +25,7 @@ placed at (f ∷ fs) = (at + f .0, f .1, f .2) ∷ placed at fs
 unfoldable pub form : ℕ → List Field → List ℕ
 form n fs = stores fs (zeros n)
 
--- The fields stand one behind the other, from a place on, within n bytes.
+-- The fields are one after the other, from a place on, within n bytes.
 abbrev pub ordered : ℕ → ℕ → List Field → Bool
 ordered from n [] = leb from n
 ordered from n (f ∷ fs) = leb from (f .0) && ordered (f .0 + f .1) n fs

@@ -1,4 +1,4 @@
--- In reading order.
+-- The definitions of wire, in reading order.
 pub mod Choice
 pub mod Numbers
 pub mod Parts

@@ -9,7 +9,7 @@ unfoldable pub le : ℕ → ℕ → List ℕ
 le zero v = []
 le (suc k) v = v % 256 ∷ le k (v / 256)
 
--- the number whose k bytes stand in s from at
+-- the number whose k bytes are in s from at
 unfoldable pub get : ℕ → List ℕ → ℕ → ℕ
 get zero s at = 0
 get (suc k) s at = getD s at 0 + 256 * get k s (suc at)

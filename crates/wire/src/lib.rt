@@ -1,4 +1,4 @@
-// Numbers in runs of bytes, read and stored. See specs/ for the fields and parts of a run.
+// Numbers in runs of bytes, read and stored. The definitions of the fields and parts of a run are in specs/.
 mod number;
 
 pub use number::bit_of;

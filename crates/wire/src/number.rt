@@ -1,11 +1,11 @@
-// Numbers in runs of bytes, low byte first: read and stored.
+// How numbers are read from and stored in runs of bytes, low byte first.
 ghost use mathlib.Core.Path.{_≡_};
 ghost use Prim.Native.Nat.{_+_, _*_, _≤_};
 ghost use lib.ListN.{length};
 ghost use Rattle.wire.specs.Choice.{bit};
 ghost use Rattle.wire.specs.Numbers.{get, put};
 
-// How many values a u8, a u16 and a u32 have; how many bytes a u16 and a u32.
+// How many values a u8, a u16 and a u32 have; how many bytes a u16 and a u32 have.
 const U8_VALUES: u16 = 256;
 
 const U16_VALUES: u32 = 65536;

@@ -1,4 +1,4 @@
--- `desk::all` is safe and ends: the measure is how many records may still be counted.
+-- `desk::all` is safe and terminates: the measure is how many records can still be counted.
 use mathlib.Core.Path.{_≡_}
 use Prim.Native.Nat.{_-_}
 use lib.ListN.{length}

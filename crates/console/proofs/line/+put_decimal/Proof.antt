@@ -25,7 +25,7 @@ abbrev put-decimal-below : ℕ → In 1 put-decimal-kinds.ps
 put-decimal-below t =
     and 1 put-decimal-kinds.ps (falls 1 put-decimal-kinds.ps _<_ μ-put-decimal t) put-decimal.Pre
 
--- what is known of the two functions that it calls: put_byte, and itself for a number below t
+-- the contracts of the two functions that it calls: put_byte, and itself for a number below t
 abbrev put-decimal-claims : ℕ → put-decimal-lts.Claims
 put-decimal-claims t = (put-byte-reads.Asked, put-byte-reads.Learnt, put-decimal-below t, put-decimal.Post)
 

@@ -26,7 +26,7 @@ abbrev chain-holds-below : ℕ → In 2 chain-holds-kinds.ps
 chain-holds-below t =
     and 2 chain-holds-kinds.ps (falls 2 chain-holds-kinds.ps _<_ μ-chain-holds t) chain-holds.Pre
 
--- what is known of the three functions that it calls: entry_holds, u32_at, and itself for an entry number below t
+-- the contracts of the three functions that it calls: entry_holds, u32_at, and itself for an entry number below t
 abbrev chain-holds-claims : ℕ → chain-holds-lts.Claims
 chain-holds-claims t =
     (entry-holds-reads.Asked, entry-holds-reads.Learnt, u32-at-reads.Asked, u32-at-reads.Learnt, chain-holds-below t, chain-holds.Post)

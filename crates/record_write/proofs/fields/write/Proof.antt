@@ -1,4 +1,4 @@
--- `record_write::fields::write` meets its contract: `groups-stored` says what its stores leave.
+-- `record_write::fields::write` meets its contract: `groups-stored` states what its stores leave.
 use Rattle.record_write.proofs.FitsLaws.{groups-fit}
 use Rattle.record_write.proofs.StoredLaws.{groups-stored}
 use native.Mathlib.Omega.{arith}

@@ -12,7 +12,7 @@ use Rattle.refusals.proofs.refusal.slot_refusal.Tie as tie
 returns : tie.Need-returns
 returns c = rw (le-ltb (c .before .before .args .port) 4 (c .if1 .taken))
 
--- the number that is compared is that of the stage in the record
+-- the number that is compared is that of the slot's stage in the record
 number : (c : tie.After-stage-number2) → let a = c .before .before .before .before .before .args in c .before .stage-number .result ≡ stageNumber (stageFor (a .port) (decode (a .device .now)))
 number c =
     let at-stage-number = c .before in

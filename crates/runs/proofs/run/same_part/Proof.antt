@@ -1,4 +1,4 @@
--- `runs::same_part` meets its contract. The invariant: `all` says whether the first j bytes are the same.
+-- `runs::same_part` meets its contract. The invariant: `all` is true if the first j bytes are the same, and false otherwise.
 use native.Mathlib.Numerals.{add-one}
 use mathlib.Core.Path.{_≡_, refl}
 use Prim.Native.Nat.{_-_, _≤_, zero-le}

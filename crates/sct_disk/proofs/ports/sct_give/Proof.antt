@@ -11,7 +11,7 @@ use borrow.Author.Needs.{needs}
 use Rattle.sct_disk.proofs.ports.sct_give.Statement.{statement}
 use Rattle.sct_disk.proofs.ports.sct_give.Tie as tie
 
--- what the checks say where none failed
+-- what holds if no check failed
 passed : (c : tie.Else1) → let a = c .before .before .before .before .before .before .args in MailboxPassed (a .device .now) (a .port) (a .mailbox .now) (a .area .now)
 passed c =
     let a = c .before .before .before .before .before .before .args in

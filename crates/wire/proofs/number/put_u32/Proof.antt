@@ -1,4 +1,4 @@
--- `wire::put_u32` meets its contract: the two halves, one behind the other, are the number.
+-- `wire::put_u32` meets its contract: the two halves, one after the other, are the number.
 use Rattle.wire.proofs.NumbersLaws.{put-halves}
 use borrow.Author.Needs.{needs}
 use Rattle.wire.proofs.number.put_u32.Statement.{statement}
