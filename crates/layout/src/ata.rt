@@ -46,7 +46,7 @@ pub const SCT_STATUS_LOG: u8 = 0xE0;
 
 pub const SCT_DATA_LOG: u8 = 0xE1;
 
-// "Good: Status 50h, Error 0. Refused: Status 51h"; the errors 04h (command aborted) and 10h (sector not found)
+// "Good: Status 50h, Error 0. Refused: Status 51h"; the errors 04h (command aborted) and 10h (ID not found: no such sector)
 pub const STATUS_GOOD: u8 = 0x50;
 
 pub const STATUS_REFUSED: u8 = 0x51;

@@ -1,5 +1,5 @@
-// The sizes of document 01 that the code uses, in bytes unless stated otherwise. The definitions are in crates/model/specs/Sizes and
-// crates/store/specs/Areas; it is proved where they are used that code and definitions agree.
+// The numbers of document 01 that the code uses: sizes here, in bytes unless stated otherwise; offsets, codes and answers in the modules.
+// The definitions are in crates/model/specs and crates/store/specs; that code and definitions agree is proved where the numbers are used.
 
 pub mod answer;
 pub mod ata;

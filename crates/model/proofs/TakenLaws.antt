@@ -35,7 +35,7 @@ abbrev pub after : List Step → Machine → Machine
 after [] M = M
 after (x ∷ xs) M = after xs (step x M .state)
 
--- another port changes, or this one was not in the stage that the step needs
+-- a step on another port leaves the request
 other-port : (p q : ℕ) (x : Port) (m : List ℕ) (M : Machine) → M .ports p ≡ request m → (q ≡ p → ⊥) → withPort q x (M .ports) p ≡ request m
 other-port p q x m M held ne = port-other q p x (M .ports) (λ e. ne (sym e)) ∙ held
 

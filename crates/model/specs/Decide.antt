@@ -110,7 +110,7 @@ decideVerdict (accepted a) p d = carryOut a p (withCode 0x0000 d)
 decideVerdict (rejected code) p d = decision (withCode code d) (refusedWith code) nothing
 
 -- "Words 0 and 1 are action and function; both are recorded from every key, accepted or not."
-unfoldable pub decideKey : ℕ → Mailbox → Device → Decision
+unfoldable pub decideKey : ℕ → Sector → Device → Decision
 decideKey p k d = decideVerdict (judgeKey d k) p (withKey (word k 0) (word k 1) d)
 
 -- ---- data
@@ -133,13 +133,13 @@ sectorsOf (fillData first end) = 1
 abbrev pub dataChecks : Bool → Direction → ℕ → Transfer → List Check
 dataChecks locked dir count t = (not locked, 0x0012) ∷ (moves dir t, 0x000B) ∷ (eqb count (sectorsOf t), 0x0003) ∷ []
 
-abbrev pub transferEffect : Transfer → Mailbox → Effect
+abbrev pub transferEffect : Transfer → Sector → Effect
 transferEffect none sector = nothing
 transferEffect table sector = sending temperatures
 transferEffect (fillData first end) sector = writing (newFill first end sector)
 
 -- "Each becomes the stored code." "A completed transfer stores 0000h, or FFFFh where it starts a fill."
-unfoldable pub decideData : Direction → ℕ → Transfer → Mailbox → Device → Decision
+unfoldable pub decideData : Direction → ℕ → Transfer → Sector → Device → Decision
 decideData dir count t sector d =
     let code = firstFailed (dataChecks (d .locked) dir count t) in
     ifPassed code (decision (withCode 0x0000 d) (good 0 0) (transferEffect t sector)) (decision (withCode code d) (refusedWith code) nothing)
@@ -150,11 +150,11 @@ decideData dir count t sector d =
 abbrev pub sectorChecks : Device → ℕ → ℕ → List Check
 sectorChecks d count lba = (not (d .locked), 0x04) ∷ (eqb count 1, 0x04) ∷ (ltb lba (d .visible), 0x10) ∷ []
 
-abbrev pub sectorEffect : Direction → ℕ → Mailbox → Effect
+abbrev pub sectorEffect : Direction → ℕ → Sector → Effect
 sectorEffect read lba sector = sending (diskSector lba)
 sectorEffect write lba sector = writing (oneSector lba sector)
 
-unfoldable pub decideSector : Direction → ℕ → ℕ → Mailbox → Device → Decision
+unfoldable pub decideSector : Direction → ℕ → ℕ → Sector → Device → Decision
 decideSector dir count lba sector d =
     let error = firstFailed (sectorChecks d count lba) in
     ifPassed error (decision d (good 0 0) (sectorEffect dir lba sector)) (decision d (refused error) nothing)

@@ -23,13 +23,13 @@ unfolding soundInPlace
 tests-sound r b size = rw (sound-in-place r b, eq-eqb (length r) recordSize size)
 
 -- the clauses, on values that are read part by part
-pub device-tests : (r : List ℕ) (native visible minutes index : ℕ) (s : code.Settings.Settings) (command settings : Bool)
+pub device-tests : (r : List ℕ) {native visible minutes index : ℕ} (s : code.Settings.Settings) {command settings : Bool}
     → native ≡ decode r .device .native → visible ≡ decode r .device .visible → command ≡ commandSound visible (decode r .device .command)
     → settings ≡ settingsSound (asSettings s) → asSettings s ≡ decode r .device .settings
     → minutes ≡ decode r .device .thermal .minutes → index ≡ decode r .device .thermal .index
     → ((leb 1 visible && leb visible native && leb native nativeLimit) && command && settings && (ltb minutes (s .«log_interval» .state) && ltb index historySize)) ≡ deviceSound (decode r .device)
 unfolding deviceSound
-device-tests r native visible minutes index s command settings n v c t says m x =
+device-tests r s n v c t says m x =
     let last = c ∙ ap (λ (w : ℕ). commandSound w (decode r .device .command)) v in
     let kept = t ∙ ap settingsSound says in
     λ i.

@@ -17,9 +17,13 @@ returns-3 c = readable-empty _ _ (c .if3 .taken)
 
 returns-4 : tie.Need-returns-4
 returns-4 c =
-    let some = c .before .before .before .if3 .left in
-    readable-chain _ _ (c .before .before .before .before .before .if1 .left) (c .before .before .before .before .if2 .left) (omega arith) _
-    (λ latest e. c .chain-holds .ensures latest (e ∙ sym (c .before .before .native-at .ensures)))
+    let at-native-at = c .before .before in
+    let at-if3 = at-native-at .before in
+    let at-if2 = at-if3 .before in
+    let at-if1 = at-if2 .before in
+    let some = at-if3 .if3 .left in
+    readable-chain _ _ (at-if1 .if1 .left) (at-if2 .if2 .left) (omega arith) _
+    (λ latest e. c .chain-holds .ensures latest (e ∙ sym (at-native-at .native-at .ensures)))
 
 pub readable-spec : {M : Type 1} → statement M
 readable-spec =

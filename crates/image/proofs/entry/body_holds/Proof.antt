@@ -6,7 +6,14 @@ use Rattle.image.proofs.entry.body_holds.Tie as tie
 
 returns : tie.Need-returns
 unfolding bodyInPlace
-returns c = rw (c .before .before .before .before .before .before .u8-at .ensures, c .before .before .before .before .before .u8-at2 .ensures, c .before .before .before .before .is-zero .ensures, c .before .before .before .table-fixed .ensures, c .before .before .u16-at .ensures, c .before .u16-at2 .ensures, c .values-in-range .ensures)
+returns c =
+    let at-u16-at2 = c .before in
+    let at-u16-at = at-u16-at2 .before in
+    let at-table-fixed = at-u16-at .before in
+    let at-is-zero = at-table-fixed .before in
+    let at-u8-at2 = at-is-zero .before in
+    let at-u8-at = at-u8-at2 .before in
+    rw (at-u8-at .u8-at .ensures, at-u8-at2 .u8-at2 .ensures, at-is-zero .is-zero .ensures, at-table-fixed .table-fixed .ensures, at-u16-at .u16-at .ensures, at-u16-at2 .u16-at2 .ensures, c .values-in-range .ensures)
 
 pub body-holds-spec : {M : Type 1} → statement M
 body-holds-spec =

@@ -18,13 +18,23 @@ same-disk-requires c κs = (c .before .before .if1 .left, sym (c .before .readab
 
 returns-3 : tie.Need-returns-3
 returns-3 c =
-    let a = c .before .before .before .before .before .before .args in
-    read-disk (a .native) (a .image .now) (a .used) (c .before .before .before .before .if1 .left) (sym (c .before .before .before .readable .ensures) ∙ not-false _ (c .before .before .if2 .left)) false (sym (c .before .same-disk .ensures) ∙ not-true _ (c .if3 .taken))
+    let at-same-disk = c .before in
+    let at-if2 = at-same-disk .before in
+    let at-readable = at-if2 .before in
+    let at-if1 = at-readable .before in
+    let entry = at-if1 .before .before in
+    let a = entry .args in
+    read-disk (a .native) (a .image .now) (a .used) (at-if1 .if1 .left) (sym (at-readable .readable .ensures) ∙ not-false _ (at-if2 .if2 .left)) false (sym (at-same-disk .same-disk .ensures) ∙ not-true _ (c .if3 .taken))
 
 returns-4 : tie.Need-returns-4
 returns-4 c =
-    let a = c .before .before .before .before .before .before .args in
-    read-disk (a .native) (a .image .now) (a .used) (c .before .before .before .before .if1 .left) (sym (c .before .before .before .readable .ensures) ∙ not-false _ (c .before .before .if2 .left)) true (sym (c .before .same-disk .ensures) ∙ not-false _ (c .if3 .left))
+    let at-same-disk = c .before in
+    let at-if2 = at-same-disk .before in
+    let at-readable = at-if2 .before in
+    let at-if1 = at-readable .before in
+    let entry = at-if1 .before .before in
+    let a = entry .args in
+    read-disk (a .native) (a .image .now) (a .used) (at-if1 .if1 .left) (sym (at-readable .readable .ensures) ∙ not-false _ (at-if2 .if2 .left)) true (sym (at-same-disk .same-disk .ensures) ∙ not-false _ (c .if3 .left))
 
 pub read-refusal-spec : {M : Type 1} → statement M
 read-refusal-spec =

@@ -20,15 +20,23 @@ has-room-requires c κs =
 
 returns-2 : tie.Need-returns-2
 returns-2 c =
-    let a = c .before .before .before .before .before .args in
-    let room = sym (c .before .has-room .ensures) ∙ not-true _ (c .if2 .taken) in
-    ap (λ (t : Bool). if t then 0 else 8) (sym room) ∙ save-room (a .native) (a .image .now) (a .used) (sym (c .before .before .before .read-refusal .ensures) ∙ c .before .before .if1 .left)
+    let at-has-room = c .before in
+    let at-if1 = at-has-room .before in
+    let at-read-refusal = at-if1 .before in
+    let entry = at-read-refusal .before .before in
+    let a = entry .args in
+    let room = sym (at-has-room .has-room .ensures) ∙ not-true _ (c .if2 .taken) in
+    ap (λ (t : Bool). if t then 0 else 8) (sym room) ∙ save-room (a .native) (a .image .now) (a .used) (sym (at-read-refusal .read-refusal .ensures) ∙ at-if1 .if1 .left)
 
 returns-3 : tie.Need-returns-3
 returns-3 c =
-    let a = c .before .before .before .before .before .args in
-    let room = sym (c .before .has-room .ensures) ∙ not-false _ (c .if2 .left) in
-    ap (λ (t : Bool). if t then 0 else 8) (sym room) ∙ save-room (a .native) (a .image .now) (a .used) (sym (c .before .before .before .read-refusal .ensures) ∙ c .before .before .if1 .left)
+    let at-has-room = c .before in
+    let at-if1 = at-has-room .before in
+    let at-read-refusal = at-if1 .before in
+    let entry = at-read-refusal .before .before in
+    let a = entry .args in
+    let room = sym (at-has-room .has-room .ensures) ∙ not-false _ (c .if2 .left) in
+    ap (λ (t : Bool). if t then 0 else 8) (sym room) ∙ save-room (a .native) (a .image .now) (a .used) (sym (at-read-refusal .read-refusal .ensures) ∙ at-if1 .if1 .left)
 
 pub save-refusal-spec : {M : Type 1} → statement M
 save-refusal-spec =

@@ -26,8 +26,7 @@ zero-part-requires c κs =
 
 put-restored-requires : tie.Need-put-restored-requires
 put-restored-requires c κs =
-    let at-before = c .before .before .before .before in
-    let at-if1 = at-before .before in
+    let at-if1 = c .before .before .before .before .before in
     let at-power-on-refusal = at-if1 .before in
     let entry = at-power-on-refusal .before .before .before .before .before in
     let a = entry .args in
@@ -36,8 +35,7 @@ put-restored-requires c κs =
 
 returns-2 : tie.Need-returns-2
 returns-2 c =
-    let at-before = c .before in
-    let at-put-restored = at-before .before in
+    let at-put-restored = c .before .before in
     let at-zero-part = at-put-restored .before .before .before .before in
     let at-if1 = at-zero-part .before .before in
     let at-power-on-refusal = at-if1 .before in

@@ -24,8 +24,7 @@ put-entry-requires c κs =
 
 returns-2 : tie.Need-returns-2
 returns-2 c =
-    let at-before = c .before in
-    let at-put-entry = at-before .before in
+    let at-put-entry = c .before .before in
     let at-if1 = at-put-entry .before .before in
     let at-save-refusal = at-if1 .before in
     let entry = at-save-refusal .before .before .before .before in

@@ -18,10 +18,14 @@ returns c =
 
 returns-2 : tie.Need-returns-2
 returns-2 c =
-    let a = c .before .before .before .before .before .args in
+    let at-between = c .before in
+    let at-u16-at = at-between .before in
+    let at-if1 = at-u16-at .before in
+    let entry = at-if1 .before .before in
+    let a = entry .args in
     λ d lock size.
-    with-action (a .locked) (a .visible) (part (a .area .now) (a .at) sectorSize) d lock size (c .before .before .before .if1 .left)
-    (rw (number-first 2 (a .area .now) (a .at) sectorSize (omega arith) (c .before .before .u16-at .ensures)) (failed (c .before .between .ensures) (c .if2 .taken)))
+    with-action (a .locked) (a .visible) (part (a .area .now) (a .at) sectorSize) d lock size (at-if1 .if1 .left)
+    (rw (number-first 2 (a .area .now) (a .at) sectorSize (omega arith) (at-u16-at .u16-at .ensures)) (failed (at-between .between .ensures) (c .if2 .taken)))
 
 returns-3 : tie.Need-returns-3
 returns-3 c =

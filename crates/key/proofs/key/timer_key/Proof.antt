@@ -30,11 +30,25 @@ returns-3 c =
     (timer-refused (a .name) (c .timer-code .result) (setTimer (timerName (a .name)) (a .time)) (c .timer-code .ensures))
 
 returns-4 : tie.Need-returns-4
-returns-4 c = λ k f n t.
-    rw (f, passed (c .before .before .before .before .before .before .before .between .ensures) (c .before .before .before .before .before .before .if1 .left), n, passed (c .before .before .before .before .before .between2 .ensures) (c .before .before .before .before .if2 .left), eq-eqb _ _ (c .before .before .if3 .taken), t, sym (c .before .between3 .ensures) ∙ c .if4 .left, c .before .before .before .timer-name .ensures)
+returns-4 c =
+    let at-between3 = c .before in
+    let at-if3 = at-between3 .before in
+    let at-timer-name = at-if3 .before in
+    let at-if2 = at-timer-name .before in
+    let at-between2 = at-if2 .before in
+    let at-if1 = at-between2 .before in
+    let at-between = at-if1 .before in
+    λ k f n t.
+    rw (f, passed (at-between .between .ensures) (at-if1 .if1 .left), n, passed (at-between2 .between2 .ensures) (at-if2 .if2 .left), eq-eqb _ _ (at-if3 .if3 .taken), t, sym (at-between3 .between3 .ensures) ∙ c .if4 .left, at-timer-name .timer-name .ensures)
 
 returns-5 : tie.Need-returns-5
-returns-5 c = λ k f n t. rw (f, passed (c .before .before .before .before .before .between .ensures) (c .before .before .before .before .if1 .left), n, passed (c .before .before .before .between2 .ensures) (c .before .before .if2 .left), ne-eqb _ _ (c .if3 .left), c .before .timer-name .ensures)
+returns-5 c =
+    let at-timer-name = c .before in
+    let at-if2 = at-timer-name .before in
+    let at-between2 = at-if2 .before in
+    let at-if1 = at-between2 .before in
+    let at-between = at-if1 .before in
+    λ k f n t. rw (f, passed (at-between .between .ensures) (at-if1 .if1 .left), n, passed (at-between2 .between2 .ensures) (at-if2 .if2 .left), ne-eqb _ _ (c .if3 .left), at-timer-name .timer-name .ensures)
 
 pub timer-key-spec : {M : Type 1} → statement M
 timer-key-spec =

@@ -33,8 +33,7 @@ write-requires c κs =
 
 returns-2 : tie.Need-returns-2
 returns-2 c =
-    let at-before = c .before in
-    let at-write = at-before .before in
+    let at-write = c .before .before in
     let at-set-lock = at-write .before .before in
     let at-decode = at-set-lock .before in
     let at-if1 = at-decode .before .before in

@@ -15,7 +15,11 @@ sample-requires c κs = passed (c .before .before .sound .ensures) (c .before .i
 
 returns-2 : tie.Need-returns-2
 unfolding sampleBytes
-returns-2 c = rw (passed (c .before .before .before .before .before .sound .ensures) (c .before .before .before .before .if1 .left)) (refl, c .before .before .sample .ensures)
+returns-2 c =
+    let at-sample = c .before .before in
+    let at-if1 = at-sample .before .before in
+    let at-sound = at-if1 .before in
+    rw (passed (at-sound .sound .ensures) (at-if1 .if1 .left)) (refl, at-sample .sample .ensures)
 
 pub sample-spec : {M : Type 1} → statement M
 sample-spec =

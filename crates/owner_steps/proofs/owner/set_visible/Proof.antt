@@ -34,8 +34,7 @@ set-visible-requires c κs =
 
 write-requires : tie.Need-write-requires
 write-requires c κs =
-    let at-before = c .before .before .before in
-    let at-if1 = at-before .before in
+    let at-if1 = c .before .before .before .before in
     let at-visible-refusal = at-if1 .before in
     let known = at-visible-refusal .before .before in
     let entry = known .before in
@@ -44,8 +43,7 @@ write-requires c κs =
 returns-2 : tie.Need-returns-2
 unfolding setVisibleBytes
 returns-2 c =
-    let at-before = c .before in
-    let at-write = at-before .before in
+    let at-write = c .before .before in
     let at-set-visible = at-write .before .before in
     let at-decode = at-set-visible .before in
     let at-if1 = at-decode .before .before in

@@ -15,7 +15,14 @@ returns c =
     let at-visible-at = at-settings-at .before in
     let at-native-at = at-visible-at .before in
     let entry = at-native-at .before .before in
-    device-tests (entry .args .device .now) (at-native-at .native-at .result) (at-visible-at .visible-at .result) (at-u16-at .u16-at .result) (c .u16-at2 .result) (at-settings-at .settings-at .result) (at-command-sound .command-sound .result) (at-settings-sound .settings-sound .result) (at-native-at .native-at .ensures) (at-visible-at .visible-at .ensures) (at-command-sound .command-sound .ensures) (at-settings-sound .settings-sound .ensures) (at-settings-at .settings-at .ensures) (at-u16-at .u16-at .ensures) (c .u16-at2 .ensures)
+    device-tests (entry .args .device .now) (at-settings-at .settings-at .result)
+    (at-native-at .native-at .ensures)
+    (at-visible-at .visible-at .ensures)
+    (at-command-sound .command-sound .ensures)
+    (at-settings-sound .settings-sound .ensures)
+    (at-settings-at .settings-at .ensures)
+    (at-u16-at .u16-at .ensures)
+    (c .u16-at2 .ensures)
 
 pub device-sound-spec : {M : Type 1} → statement M
 device-sound-spec =

@@ -18,12 +18,17 @@ returns c =
 returns-2 : tie.Need-returns-2
 unfolding logExt
 returns-2 c =
-    let a = c .before .before .before .before .before .before .args in
+    let at-u16-at2 = c .before in
+    let at-u8-at = at-u16-at2 .before in
+    let at-if1 = at-u8-at .before in
+    let at-u16-at = at-if1 .before in
+    let entry = at-u16-at .before .before in
+    let a = entry .args in
     rw (
-      number-of 2 (a .area .now) (a .at) mailboxSize 6 (omega arith) (c .before .before .before .before .u16-at .ensures),
-      eq-eqb _ _ (c .before .before .before .if1 .left),
-      byte-of (a .area .now) (a .at) 4 (omega arith) (c .before .before .u8-at .ensures),
-      number-of 2 (a .area .now) (a .at) mailboxSize 2 (omega arith) (c .before .u16-at2 .ensures),
+      number-of 2 (a .area .now) (a .at) mailboxSize 6 (omega arith) (at-u16-at .u16-at .ensures),
+      eq-eqb _ _ (at-if1 .if1 .left),
+      byte-of (a .area .now) (a .at) 4 (omega arith) (at-u8-at .u8-at .ensures),
+      number-of 2 (a .area .now) (a .at) mailboxSize 2 (omega arith) (at-u16-at2 .u16-at2 .ensures),
     )
     (c .log-page .ensures)
 

@@ -16,31 +16,46 @@ returns c =
 returns-2 : tie.Need-returns-2
 unfolding requestOf
 returns-2 c =
-    let a = c .before .before .before .before .before .args in
-    rw (byte-of (a .area .now) (a .at) 11 (omega arith) (c .before .before .before .u8-at .ensures), ne-eqb _ _ (c .before .before .if1 .left), eq-eqb _ _ (c .before .if2 .taken)) (c .log-ext .ensures)
+    let at-if2 = c .before in
+    let at-if1 = at-if2 .before in
+    let at-u8-at = at-if1 .before in
+    let entry = at-u8-at .before .before in
+    let a = entry .args in
+    rw (byte-of (a .area .now) (a .at) 11 (omega arith) (at-u8-at .u8-at .ensures), ne-eqb _ _ (at-if1 .if1 .left), eq-eqb _ _ (at-if2 .if2 .taken)) (c .log-ext .ensures)
 
 returns-3 : tie.Need-returns-3
 unfolding requestOf
 returns-3 c =
-    let a = c .before .before .before .before .before .before .args in
+    let at-if3 = c .before in
+    let at-if2 = at-if3 .before in
+    let at-if1 = at-if2 .before in
+    let at-u8-at = at-if1 .before in
+    let entry = at-u8-at .before .before in
+    let a = entry .args in
     rw (
-      byte-of (a .area .now) (a .at) 11 (omega arith) (c .before .before .before .before .u8-at .ensures),
-      ne-eqb _ _ (c .before .before .before .if1 .left),
-      ne-eqb _ _ (c .before .before .if2 .left),
-      eq-eqb _ _ (c .before .if3 .taken),
+      byte-of (a .area .now) (a .at) 11 (omega arith) (at-u8-at .u8-at .ensures),
+      ne-eqb _ _ (at-if1 .if1 .left),
+      ne-eqb _ _ (at-if2 .if2 .left),
+      eq-eqb _ _ (at-if3 .if3 .taken),
     )
     (c .log-ext2 .ensures)
 
 returns-4 : tie.Need-returns-4
 unfolding requestOf
 returns-4 c =
-    let a = c .before .before .before .before .before .before .before .args in
+    let at-if4 = c .before in
+    let at-if3 = at-if4 .before in
+    let at-if2 = at-if3 .before in
+    let at-if1 = at-if2 .before in
+    let at-u8-at = at-if1 .before in
+    let entry = at-u8-at .before .before in
+    let a = entry .args in
     rw (
-      byte-of (a .area .now) (a .at) 11 (omega arith) (c .before .before .before .before .before .u8-at .ensures),
-      ne-eqb _ _ (c .before .before .before .before .if1 .left),
-      ne-eqb _ _ (c .before .before .before .if2 .left),
-      ne-eqb _ _ (c .before .before .if3 .left),
-      eq-eqb _ _ (c .before .if4 .taken),
+      byte-of (a .area .now) (a .at) 11 (omega arith) (at-u8-at .u8-at .ensures),
+      ne-eqb _ _ (at-if1 .if1 .left),
+      ne-eqb _ _ (at-if2 .if2 .left),
+      ne-eqb _ _ (at-if3 .if3 .left),
+      eq-eqb _ _ (at-if4 .if4 .taken),
     )
     (c .sector .ensures)
 
@@ -68,13 +83,19 @@ returns-5 c =
 returns-6 : tie.Need-returns-6
 unfolding requestOf
 returns-6 c =
-    let a = c .before .before .before .before .before .before .before .args in
+    let at-if4 = c .before in
+    let at-if3 = at-if4 .before in
+    let at-if2 = at-if3 .before in
+    let at-if1 = at-if2 .before in
+    let at-u8-at = at-if1 .before in
+    let entry = at-u8-at .before .before in
+    let a = entry .args in
     rw (
-      byte-of (a .area .now) (a .at) 11 (omega arith) (c .before .before .before .before .before .u8-at .ensures),
-      ne-eqb _ _ (c .before .before .before .before .if1 .left),
-      ne-eqb _ _ (c .before .before .before .if2 .left),
-      ne-eqb _ _ (c .before .before .if3 .left),
-      ne-eqb _ _ (c .before .if4 .left),
+      byte-of (a .area .now) (a .at) 11 (omega arith) (at-u8-at .u8-at .ensures),
+      ne-eqb _ _ (at-if1 .if1 .left),
+      ne-eqb _ _ (at-if2 .if2 .left),
+      ne-eqb _ _ (at-if3 .if3 .left),
+      ne-eqb _ _ (at-if4 .if4 .left),
       ne-eqb _ _ (c .if5 .left),
     )
 

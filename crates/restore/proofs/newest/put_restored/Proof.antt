@@ -24,14 +24,20 @@ restore-entry-requires c κs =
 
 returns : tie.Need-returns
 returns c =
-    let a = c .before .before .before .before .before .before .before .args in
-    c .before .before .restore-blank .ensures ∙ ap (λ (s : Saved). encode (restoredContents s)) (restored-blank (a .native) (a .image .now) (a .used) (c .before .before .before .before .if1 .taken))
+    let at-restore-blank = c .before .before in
+    let at-if1 = at-restore-blank .before .before in
+    let entry = at-if1 .before .before .before in
+    let a = entry .args in
+    at-restore-blank .restore-blank .ensures ∙ ap (λ (s : Saved). encode (restoredContents s)) (restored-blank (a .native) (a .image .now) (a .used) (at-if1 .if1 .taken))
 
 returns-2 : tie.Need-returns-2
 returns-2 c =
-    let a = c .before .before .before .before .before .before .before .args in
-    c .before .before .restore-entry .ensures
-    ∙ ap (λ (s : Saved). encode (restoredContents s)) (restored-newest (a .native) (a .image .now) (a .used) (c .before .before .before .before .before .before .before .pre .1) (c .before .before .before .before .if1 .left))
+    let at-restore-entry = c .before .before in
+    let at-if1 = at-restore-entry .before .before in
+    let entry = at-if1 .before .before .before in
+    let a = entry .args in
+    at-restore-entry .restore-entry .ensures
+    ∙ ap (λ (s : Saved). encode (restoredContents s)) (restored-newest (a .native) (a .image .now) (a .used) (entry .pre .1) (at-if1 .if1 .left))
 
 pub put-restored-spec : {M : Type 1} → statement M
 put-restored-spec =

@@ -6,7 +6,15 @@ use Rattle.restore.proofs.newest.saved_settings.Tie as tie
 
 returns : tie.Need-returns
 unfolding savedAt
-returns c = rw (c .power-on .ensures, c .before .before .before .before .before .has-bit .ensures, c .before .before .before .has-bit2 .ensures, c .before .has-bit3 .ensures, c .before .before .before .before .before .before .u16-at .ensures, c .before .before .before .before .u16-at2 .ensures, c .before .before .u16-at3 .ensures, c .before .before .before .before .before .before .before .u8-at .ensures)
+returns c =
+    let at-has-bit3 = c .before in
+    let at-u16-at3 = at-has-bit3 .before in
+    let at-has-bit2 = at-u16-at3 .before in
+    let at-u16-at2 = at-has-bit2 .before in
+    let at-has-bit = at-u16-at2 .before in
+    let at-u16-at = at-has-bit .before in
+    let at-u8-at = at-u16-at .before in
+    rw (c .power-on .ensures, at-has-bit .has-bit .ensures, at-has-bit2 .has-bit2 .ensures, at-has-bit3 .has-bit3 .ensures, at-u16-at .u16-at .ensures, at-u16-at2 .u16-at2 .ensures, at-u16-at3 .u16-at3 .ensures, at-u8-at .u8-at .ensures)
 
 pub saved-settings-spec : {M : Type 1} → statement M
 saved-settings-spec =

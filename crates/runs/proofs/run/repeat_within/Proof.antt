@@ -48,9 +48,11 @@ same-length c = c .before .loop .inv .1
 
 returns : tie.Need-returns Inv-loop μ-loop
 returns c =
-    let a = c .before .before .before .before .before .args in
-    let past : c .before .loop .k ≡ a .times = omega arith in
-    rw (c .before .loop .inv .2, past)
+    let at-loop = c .before in
+    let entry = at-loop .before .before .before .before in
+    let a = entry .args in
+    let past : at-loop .loop .k ≡ a .times = omega arith in
+    rw (at-loop .loop .inv .2, past)
 
 pub repeat-within-spec : {M : Type 1} → statement M
 repeat-within-spec =

@@ -19,9 +19,8 @@ returns-3 c =
     let at-shifted2 = c .before in
     let at-shifted = at-shifted2 .before in
     let at-if2 = at-shifted .before in
-    let at-before = at-if2 .before in
-    let s = at-before .before in
-    maximum-old (s .args .sample) (s .args .old) (at-before .if1 .left) (at-if2 .if2 .left) (s .fits .sample .fits) (s .fits .old .fits)
+    let s = at-if2 .before .before in
+    maximum-old (s .args .sample) (s .args .old) (at-if2 .before .if1 .left) (at-if2 .if2 .left) (s .fits .sample .fits) (s .fits .old .fits)
     (rw (← at-shifted .shifted .ensures, ← at-shifted2 .shifted2 .ensures) (c .if3 .taken))
 
 returns-4 : tie.Need-returns-4
@@ -29,9 +28,8 @@ returns-4 c =
     let at-shifted2 = c .before in
     let at-shifted = at-shifted2 .before in
     let at-if2 = at-shifted .before in
-    let at-before = at-if2 .before in
-    let s = at-before .before in
-    maximum-sample (s .args .sample) (s .args .old) (at-before .if1 .left) (at-if2 .if2 .left) (s .fits .sample .fits) (s .fits .old .fits)
+    let s = at-if2 .before .before in
+    maximum-sample (s .args .sample) (s .args .old) (at-if2 .before .if1 .left) (at-if2 .if2 .left) (s .fits .sample .fits) (s .fits .old .fits)
     (rw (← at-shifted .shifted .ensures, ← at-shifted2 .shifted2 .ensures) (c .if3 .left))
 
 pub new-maximum-spec : {M : Type 1} → statement M
