@@ -43,10 +43,10 @@ key-codes d k = (omega arith, omega arith, (omega arith, omega arith, go (eqb (w
     go false false false = (omega arith, omega arith, (omega arith, omega arith, tt))
 
 -- "Checks, in order": the first row that fails gives the code.
-pub key-rejected : (d : Device) (k : List ℕ) (before : List Check) (code : ℕ) (behind : List Check)
-    → keyChecks d k ≡ before ++ (false, suc code) ∷ behind → AllPass before → judgeKey d k ≡ rejected (suc code)
+pub key-rejected : (d : Device) (k : List ℕ) (before : List Check) (code : ℕ) (rest : List Check)
+    → keyChecks d k ≡ before ++ (false, suc code) ∷ rest → AllPass before → judgeKey d k ≡ rejected (suc code)
 unfolding judgeKey
-key-rejected d k before code behind e p = ap (λ (cs : List Check). verdict (firstFailed cs) (actionOf (d .visible) k)) e ∙ rw (first-decides before (suc code) behind p)
+key-rejected d k before code rest e p = ap (λ (cs : List Check). verdict (firstFailed cs) (actionOf (d .visible) k)) e ∙ rw (first-decides before (suc code) rest p)
 
 verdict-accepted : (n : ℕ) (a b : Action) → verdict n a ≡ accepted b → (n ≡ 0) × (a ≡ b)
 verdict-accepted zero a b e = (refl, cc)

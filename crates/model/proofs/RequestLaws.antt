@@ -13,12 +13,12 @@ use Rattle.wire.specs.Parts.{part}
 use Rattle.wire.proofs.ChoiceLaws.{pass-all}
 use Rattle.model.specs.Sizes.{sectorSize, portCount, done}
 use Rattle.model.specs.Device.{Fill, idle, running, Transfer, none, table, fillData, Device}
-use Rattle.model.specs.Update.{withSettings, withCode, withKey, withPending, withInitialized, withCommand}
+use Rattle.model.specs.Update.{withFill, withSettings, withCode, withKey, withPending, withInitialized, withCommand}
 use Rattle.model.specs.Registers.{Direction, read, write, Request, statusRead, keySector, dataTransfer, sectorAccess, other, dataOf, requestOf, good, refused, refusedWith, replyBytes}
 use Rattle.model.specs.Key.{word, FeatureName, Action, fillPattern, fillSector, setTimer, returnTimer, setFeature, returnState, returnOption, sendTable, Verdict, accepted, rejected, judgeKey}
 use Rattle.model.specs.Status.{statusSector}
 use Rattle.model.specs.Disk.{Disk}
-use Rattle.model.specs.Fill.{nothingPending, stopFill, interrupt, startFill, writeSector}
+use Rattle.model.specs.Fill.{nothingPending, stopFill, interrupt, writeSector}
 use Rattle.model.specs.Decide.{Serving, oneSector, newFill, status, temperatures, diskSector, nothing, writing, sending, Decision, decision, timer, withTimer, feature, withFeature, afterFeature, carryOut, decideVerdict, decideKey, moves, sectorsOf, dataChecks, decideData, sectorChecks, decideSector, decideRequest, decide}
 use Rattle.model.specs.Perform.{temperatureTable, volumeAfter, replyOf}
 use Rattle.model.specs.Machine.{Port, request, reply, Machine, heldBytes}
@@ -109,7 +109,7 @@ module _ (s : Serving) (M : Machine) (m : List ℕ) (port : s .port < portCount)
 
   -- "Pattern fill starts at once": code FFFFh, next is first; no sector is written yet
   pub serves-pattern : (first end : ℕ) (sector : List ℕ) → requestOf m ≡ keySector → keyJudged ≡ accepted (fillPattern first end sector)
-      → Serves s M (replyBytes (good 0 0) []) (startFill first end keyed) (M .disk)
+      → Serves s M (replyBytes (good 0 0) []) (withFill (running first first end) 0xFFFF keyed) (M .disk)
   unfolding carryOut
   serves-pattern first end sector e j = serves (decided-accepted e _ j)
 
@@ -200,7 +200,7 @@ module _ (s : Serving) (M : Machine) (m : List ℕ) (port : s .port < portCount)
   -- "A completed transfer stores .. FFFFh where it starts a fill."
   pub serves-fill-data : (first end : ℕ) → requestOf m ≡ dataTransfer write 1 → M .device .locked ≡ false
       → getD (M .device .command .pending) p none ≡ fillData first end
-      → Serves s M (replyBytes (good 0 0) []) (startFill first end (withCode 0x0000 (interrupt (M .device)))) (M .disk)
+      → Serves s M (replyBytes (good 0 0) []) (withFill (running first first end) 0xFFFF (interrupt (M .device))) (M .disk)
   unfolding decideData
   serves-fill-data first end e unlocked pends =
       serves {c = decision (withCode 0x0000 (interrupt (M .device))) (good 0 0) (writing (newFill first end (dataOf m)))}

@@ -8,7 +8,7 @@ use Rattle.wire.specs.Layout.{form}
 use Rattle.model.specs.Registers.{logPage, smartLog, requestOf, registersBytes, replyBytes}
 use Rattle.model.specs.Key.{keyChecks, actionOf, judgeKey}
 use Rattle.model.specs.Temperature.{newMaximum, sampled}
-use Rattle.model.specs.Fill.{interrupt, workCount}
+use Rattle.model.specs.Fill.{interrupt, workCount, work, sectorStep, writeSector}
 use Rattle.model.specs.Decide.{carryOut, decideKey, decide}
 use Rattle.model.specs.Owner.{sample}
 use Rattle.model.specs.Image.{powerOn, restored}
@@ -19,7 +19,7 @@ use Rattle.model.specs.Sizes.{mailboxSize, sectorSize}
 
 -- THEOREM: every starred example has the outcome that 01 states.
 pub starred-hold : map (λ (e : Example × List ℕ). evaluate (e .0)) starred ≡ map (λ (e : Example × List ℕ). e .1) starred
-unfolding evaluate le get put form logPage smartLog requestOf keyChecks actionOf judgeKey repeated newMaximum sampled interrupt workCount carryOut decideKey decide sample powerOn
+unfolding evaluate le get put form logPage smartLog requestOf keyChecks actionOf judgeKey repeated newMaximum sampled interrupt workCount work sectorStep writeSector carryOut decideKey decide sample powerOn
 starred-hold = refl
 
 -- "Start 64, Count 0: 0002h", from the mailbox through take, serve and give to the mailbox of the reply

@@ -13,6 +13,11 @@ use Rattle.model.specs.Sizes.{portCount, mailboxSize, done, refusalOrder
 use Rattle.model.specs.Machine.{Port, empty, request, reply, Machine, whileRunning, withPort}
 use Rattle.model.specs.Step.{Step, take, serve, give, work, owner, save, powerOn, Seen, Outcome, checks, unchanged, seenDone, answeredMailbox, does, attempt, step, trace}
 
+-- the trace of a list is the first step's outcome, and the trace of the rest from the state that it leaves
+pub trace-first : {S : Type 0} (f : Step → S → Outcome S) (x : Step) (xs : List Step) (s : S)
+    → (trace f [] s ≡ []) × (trace f (x ∷ xs) s ≡ f x s ∷ trace f xs (f x s .state))
+trace-first f x xs s = (refl, refl)
+
 -- a step that no check refuses is done
 pub step-done : (x : Step) (M : Machine) → firstFailed (checks x M) ≡ 0 → step x M ≡ record { state = does x M; seen = seenDone x M }
 unfolding step

@@ -1,11 +1,11 @@
 -- Laws of temperatures: maxima by signed value, missing samples, and where a reading is logged.
-use mathlib.Core.Path.{_≡_, refl, sym, _∙_}
+use mathlib.Core.Path.{_≡_, ap, refl, sym, _∙_}
 use mathlib.Core.Bool.{Bool, true, false}
 use mathlib.Core.Logic.{_⊎_, inl, inr}
 use Prim.Native.Nat.{ℕ, suc, _+_, _-_, _≤_, _<_}
 use native.Mathlib.Omega.{arith}
 use lib.ListN.{set}
-use lib.IntN.{ℤ, pos, negsuc}
+use lib.IntN.{ℤ, pos, negsuc, _-ℤ_}
 use lib.Signed.{leZ, _≤ℤ_, ≤ℤ-refl}
 use lib.Dec.{eqb, leb, le→leb}
 use borrow.Author.Tests.{eqb-true, ne-eqb, leb-false, lt-ltb, le-ltb}
@@ -56,12 +56,12 @@ first-sample sample = go (eqb sample missing) refl
     go true e = sym (eqb-true sample missing e)
     go false e = refl
 
--- two's complement: 0 to 127 mean themselves, and 80h + n means -128 + n
+-- two's complement: 0 to 127 mean themselves, and n means n - 256 from 80h on
 pub signed-positive : (b : ℕ) → b < 128 → signed b ≡ pos b
 signed-positive b h = rw (lt-ltb b 128 h)
 
-pub signed-negative : (b : ℕ) → 128 ≤ b → signed b ≡ negsuc (255 - b)
-signed-negative b h = rw (le-ltb b 128 h)
+pub signed-negative : (b : ℕ) → 128 ≤ b → b < 256 → signed b ≡ pos b -ℤ pos 256
+signed-negative b h k = rw (le-ltb b 128 h, lt-ltb b 256 k) (ap negsuc (omega arith))
 
 -- ---- the history
 

@@ -3,12 +3,13 @@ use Prim.Native.Nat.{ℕ, _-_, _^_}
 use mathlib.Core.List.{List, [], _∷_, _++_}
 use Rattle.wire.specs.Layout.{Field, form}
 use Rattle.model.specs.Sizes.{sectorSize, registersSize}
-use Rattle.model.specs.Device.{running, Device}
-use Rattle.model.specs.Update.{withThermal}
+use Rattle.model.specs.Device.{Fill, idle, running, Device}
+use Rattle.model.specs.Update.{withFill, withThermal}
 use Rattle.model.specs.Registers.{Registers}
 use Rattle.model.specs.Temperature.{emptyHistory}
-use Rattle.model.specs.Fill.{workCount}
+use Rattle.model.specs.Fill.{workCount, work}
 use Rattle.model.specs.Decide.{decide}
+use Rattle.model.specs.Perform.{volumeAfter}
 use Rattle.model.specs.Owner.{sample}
 use Rattle.model.specs.Image.{powerOn, blank}
 use Rattle.model.specs.Buffers.{Mailbox}
@@ -39,41 +40,59 @@ pub data Example : Type 0 where
   maximum : ℕ → ℕ → Example
   left : ℕ → ℕ → Example
 
-abbrev pub acceptedReply : List ℕ
-acceptedReply = 0x50 ∷ 0 ∷ 0 ∷ []
+-- a fresh device with so many sectors of a fill of its disk left
+abbrev pub filling : ℕ → Device
+filling count = withFill (running 0 (64 - count) 64) 0xFFFF fresh
 
-abbrev pub refusedReply : ℕ → List ℕ
-refusedReply code = 0x51 ∷ 0x04 ∷ code ∷ []
+-- a fill's first sector, next sector and end, 0 with no fill
+abbrev pub fillNumbers : Fill → List ℕ
+fillNumbers idle = 0 ∷ 0 ∷ 0 ∷ []
+fillNumbers (running first next end) = first ∷ next ∷ end ∷ []
 
-abbrev pub numbers : Registers → List ℕ
-numbers r = r .status ∷ r .error ∷ r .value ∷ []
+-- Status, Error and value of a reply, then the stored code and the fill of the device after it
+abbrev pub outcome : Registers → Device → List ℕ
+outcome r d = r .status ∷ r .error ∷ r .value ∷ d .command .code ∷ fillNumbers (d .command .fill)
 
--- Status, Error and code of the reply to a key; the maximum after a sample; the sectors that a work step writes
+abbrev pub acceptedKey : List ℕ
+acceptedKey = 0x50 ∷ 0 ∷ 0 ∷ 0x0000 ∷ 0 ∷ 0 ∷ 0 ∷ []
+
+abbrev pub acceptedFill : ℕ → ℕ → List ℕ
+acceptedFill first end = 0x50 ∷ 0 ∷ 0 ∷ 0xFFFF ∷ first ∷ first ∷ end ∷ []
+
+abbrev pub refusedKey : ℕ → List ℕ
+refusedKey code = 0x51 ∷ 0x04 ∷ code ∷ code ∷ 0 ∷ 0 ∷ 0 ∷ []
+
+-- What a key leaves; both maxima after a sample; the sectors that a work step reports, the stored code and the fill after it.
 unfoldable pub evaluate : Example → List ℕ
-evaluate (key fields) = numbers (decide (record { port = 0 }) (keyMailbox fields) fresh .registers)
-evaluate (maximum old reading) = sample reading (withMaximum old) .thermal .lifeMaximum ∷ []
-evaluate (left count n) = workCount n (running 0 (64 - count) 64) ∷ []
+evaluate (key fields) =
+    let c = decide (record { port = 0 }) (keyMailbox fields) fresh in
+    outcome (c .registers) (volumeAfter c (record { sectors = [] }) .device)
+evaluate (maximum old reading) =
+    let t = sample reading (withMaximum old) .thermal in t .cycleMaximum ∷ t .lifeMaximum ∷ []
+evaluate (left count n) =
+    let d = work n [] (record { device = filling count; disk = record { sectors = [] } }) .device in
+    workCount n (filling count .command .fill) ∷ d .command .code ∷ fillNumbers (d .command .fill)
 
 -- an example, and the outcome that 01 states for it
 abbrev pub starred : List (Example × List ℕ)
 starred =
     -- "Start 63, Count 0 accepted." "Start 64, Count 0: 0002h."
-    (key (fillKey 63 0), acceptedReply)
-    ∷ (key (fillKey 64 0), refusedReply 0x0002)
+    (key (fillKey 63 0), acceptedFill 63 64)
+    ∷ (key (fillKey 64 0), refusedKey 0x0002)
     -- "Start 0, Count 63 accepted; * Count 64: 0002h." "Start 1, Count 2^64-1: 0002h."
-    ∷ (key (fillKey 0 63), acceptedReply)
-    ∷ (key (fillKey 0 64), refusedReply 0x0002)
-    ∷ (key (fillKey 1 (2 ^ 64 - 1)), refusedReply 0x0002)
+    ∷ (key (fillKey 0 63), acceptedFill 0 63)
+    ∷ (key (fillKey 0 64), refusedKey 0x0002)
+    ∷ (key (fillKey 1 (2 ^ 64 - 1)), refusedKey 0x0002)
     -- "Action 1: 0010h."
-    ∷ (key (wordsKey 1 1 0 0 0), refusedReply 0x0010)
+    ∷ (key (wordsKey 1 1 0 0 0), refusedKey 0x0010)
     -- "Timer 9 for reads: 0006h; * 10 accepted; * 0 accepted."
-    ∷ (key (wordsKey 3 1 1 9 0), refusedReply 0x0006)
-    ∷ (key (wordsKey 3 1 1 10 0), acceptedReply)
-    ∷ (key (wordsKey 3 1 1 0 0), acceptedReply)
+    ∷ (key (wordsKey 3 1 1 9 0), refusedKey 0x0006)
+    ∷ (key (wordsKey 3 1 1 10 0), acceptedKey)
+    ∷ (key (wordsKey 3 1 1 0 0), acceptedKey)
     -- "Feature 3 with word 3 = 0 and word 4 = 2: 000Eh."
-    ∷ (key (wordsKey 4 1 3 0 2), refusedReply 0x000E)
+    ∷ (key (wordsKey 4 1 3 0 2), refusedKey 0x000E)
     -- "Maximum F6h, sample 05h: 05h."
-    ∷ (maximum 0xF6 0x05, 0x05 ∷ [])
+    ∷ (maximum 0xF6 0x05, 0x05 ∷ 0x05 ∷ [])
     -- "Work 10 with 3 left: 3."
-    ∷ (left 3 10, 3 ∷ [])
+    ∷ (left 3 10, 3 ∷ 0x0000 ∷ 0 ∷ 0 ∷ 0 ∷ [])
     ∷ []

@@ -2,14 +2,14 @@
 use mathlib.Core.Path.{_≡_, refl, sym, ap, subst, _∙_}
 use mathlib.Core.Bool.{Bool, true, false}
 use mathlib.Core.Logic.{_↔_}
-use Prim.Native.Nat.{ℕ, suc, _*_, _/_, _%_, _≤_, _<_}
+use Prim.Native.Nat.{ℕ, zero, suc, _+_, _*_, _/_, _%_, _≤_, _<_}
 use native.Mathlib.Omega.{arith}
 use mathlib.Core.List.{List, [], _∷_}
 use lib.ListN.{length, drop}
-use lib.Dec.{eqb, leb}
-use borrow.Author.Tests.{eqb-true, eqb-false, eq-eqb, leb-true, leb-false, le-leb}
-use Rattle.wire.specs.Choice.{if_then_else_, Check, firstFailed}
-use Rattle.wire.proofs.ChoiceLaws.{Numbered, between-within, first-bound, all-pass, pass-all}
+use lib.Dec.{eqb, ltb, leb}
+use borrow.Author.Tests.{eqb-true, eqb-false, eq-eqb, ltb-true, lt-ltb, leb-true, leb-false, le-leb}
+use Rattle.wire.specs.Choice.{if_then_else_, Check, firstFailed, ifPassed}
+use Rattle.wire.proofs.ChoiceLaws.{Numbered, and-left, and-right, between-within, first-bound, all-pass, pass-all}
 use Rattle.model.specs.Sizes.{sectorSize, nativeLimit, mailboxSize}
 use Rattle.model.specs.Image.{wholeSectors, readable, sameDisk}
 use Rattle.model.specs.Machine.{Machine, request}
@@ -20,8 +20,10 @@ use Rattle.model.proofs.LimitLaws.{whole-sectors}
 use Rattle.model.proofs.TakenLaws.{LeavesRequest, AllLeave, after, requests-stay}
 use Rattle.model.proofs.RefusalLaws.{power-on-empty}
 use Rattle.store.specs.Areas.{recordSize, privateSize}
+use Rattle.store.specs.Record.{decode}
+use Rattle.store.specs.Sound.{sound}
 use Rattle.store.specs.Store.{Store, machineOf}
-use Rattle.store.specs.Entries.{powerOnChecks, powerOnBytes}
+use Rattle.store.specs.Entries.{SaveAfter, saveChecks, saveDone, saveBytes, powerOnChecks, powerOnBytes}
 use Rattle.store.specs.OnStore.{onStore}
 use Rattle.store.proofs.ExitLaws.{storeChecks, doneStore, doneSeen, on-refused, on-done}
 use Rattle.store.proofs.FollowLaws.{StoreValid, machine-valid}
@@ -98,9 +100,9 @@ no-four (save image used) M = omega arith
 no-four (powerOn image used) M = omega arith
 
 -- .. and a 2 only for a mailbox's length or a used length
-behind-length : (b : Bool) (cs : List Check) → EachNumber (λ n. n ≡ 2 → ⊥) cs → (if b then firstFailed cs else 2) ≡ 2 → b ≡ false
-behind-length true cs e h = absurd (first-among (λ n. n ≡ 2 → ⊥) cs (λ z. omega arith) e h)
-behind-length false cs e h = refl
+after-length : (b : Bool) (cs : List Check) → EachNumber (λ n. n ≡ 2 → ⊥) cs → (if b then firstFailed cs else 2) ≡ 2 → b ≡ false
+after-length true cs e h = absurd (first-among (λ n. n ≡ 2 → ⊥) cs (λ z. omega arith) e h)
+after-length false cs e h = refl
 
 never-two : (cs : List Check) → EachNumber (λ n. n ≡ 2 → ⊥) cs → firstFailed cs ≡ 2 → ⊥
 never-two cs e h = first-among (λ n. n ≡ 2 → ⊥) cs (λ z. omega arith) e h
@@ -116,16 +118,16 @@ disk-whole M ok =
 
 only-length : (x : Step) (M : Machine) → MachineValid M → firstFailed (checks x M) ≡ 2 → LengthWrong x
 only-length (take p m) M ok e =
-    eqb-false (length m) mailboxSize (behind-length (eqb (length m) mailboxSize) (drop 1 (checks (take p m) M)) (omega arith) e)
+    eqb-false (length m) mailboxSize (after-length (eqb (length m) mailboxSize) (drop 1 (checks (take p m) M)) (omega arith) e)
 only-length (serve x) M ok e = never-two (checks (serve x) M) (omega arith) e
 only-length (give p m) M ok e =
-    eqb-false (length m) mailboxSize (behind-length (eqb (length m) mailboxSize) (drop 1 (checks (give p m) M)) (omega arith) e)
+    eqb-false (length m) mailboxSize (after-length (eqb (length m) mailboxSize) (drop 1 (checks (give p m) M)) (omega arith) e)
 only-length (work n) M ok e = absurd (omega arith)
 only-length (owner x) M ok e = never-two (checks (owner x) M) (omega arith) e
 only-length (save image used) M ok e =
-    leb-false used (length image) (behind-length (leb used (length image)) (drop 1 (checks (save image used) M)) (omega arith) e)
+    leb-false used (length image) (after-length (leb used (length image)) (drop 1 (checks (save image used) M)) (omega arith) e)
 only-length (powerOn image used) M ok e =
-    leb-false used (length image) (behind-length (leb used (length image)) (drop 2 (checks (powerOn image used) M)) (omega arith) (rw (disk-whole M ok) at e))
+    leb-false used (length image) (after-length (leb used (length image)) (drop 2 (checks (powerOn image used) M)) (omega arith) (rw (disk-whole M ok) at e))
 
 -- the answers of a step after a power-on
 pub record AnswersRight (x : Step) (s : Store) : Type 0 where
@@ -184,6 +186,38 @@ power-on-fresh r a disk image n size private sectors some most =
     let whole : wholeSectors (length disk) ≡ true = whole-sectors (length disk) .1 (omega arith, omega arith, omega arith) in
     power-on-answer r a disk image 0
     ∙ rw (eq-eqb (length r) recordSize size, eq-eqb (length a) privateSize private) (power-on-empty disk image 0 whole)
+
+-- ---- save
+
+save-number : (n : ℕ) (x y : SaveAfter) → x .answer ≡ 0 → y .answer ≡ n → ifPassed n x y .answer ≡ n
+save-number zero x y p q = p
+save-number (suc n) x y p q = q
+
+save-answer : (r image : List ℕ) (used : ℕ) → saveBytes r image used .answer ≡ firstFailed (saveChecks r image used)
+unfolding saveBytes
+save-answer r image used = save-number (firstFailed (saveChecks r image used)) (saveDone r image used) _ refl refl
+
+-- THEOREM: a save answers 0 exactly if the paper names no refusal: the record is sound, the used length is within the buffer, the image is readable, its
+-- newest entry this disk's, and it has room: fewer than 117 entries, and 560 bytes more in the buffer.
+pub save-exactly : (r image : List ℕ) (used : ℕ)
+    → (saveBytes r image used .answer ≡ 0)
+    ↔ ((sound r ≡ true) × (used ≤ length image) × (readable image used ≡ true) × (sameDisk (decode r .device .native) image used ≡ true) × (used / 560 < 117) × (used + 560 ≤ length image))
+save-exactly r image used = (
+  λ e.
+      let pass = all-pass 8 (saveChecks r image used) (omega arith) (sym (save-answer r image used) ∙ e) in
+      let room = pass .1 .1 .1 .1 .0 in (
+        pass .0,
+        leb-true used (length image) (pass .1 .0),
+        pass .1 .1 .0,
+        pass .1 .1 .1 .0,
+        ltb-true (used / 560) 117 (and-left (ltb (used / 560) 117) (leb (used + 560) (length image)) room),
+        leb-true (used + 560) (length image) (and-right (ltb (used / 560) 117) (leb (used + 560) (length image)) room),
+      ),
+  λ k.
+      save-answer r image used
+      ∙ pass-all (saveChecks r image used)
+      (k .0, (le-leb used (length image) (k .1), (k .2, (k .3, (rw (lt-ltb (used / 560) 117 (k .4)) (le-leb (used + 560) (length image) (k .5)), tt))))),
+)
 
 -- a power-on does not change the disk
 pub power-on-leaves-disk : (image : List ℕ) (used : ℕ) (s : Store) → onStore (powerOn image used) s .state .disk ≡ s .disk

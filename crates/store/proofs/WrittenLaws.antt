@@ -9,7 +9,7 @@ use Rattle.wire.specs.Numbers.{le, put}
 use Rattle.wire.specs.Parts.{part}
 use Rattle.wire.specs.Layout.{stores, form}
 use Rattle.wire.specs.Bytes.{Bytes}
-use Rattle.wire.proofs.PartsLaws.{length-part, put-behind}
+use Rattle.wire.proofs.PartsLaws.{length-part, put-after}
 use Rattle.wire.proofs.LayoutLaws.{length-form, stores-front}
 use Rattle.wire.proofs.FormUnique.{form-stored}
 use Rattle.model.specs.Sizes.{historySize}
@@ -35,12 +35,12 @@ unfolding tableBytes form put le
 table-stored i x interval index history = refl
 
 -- .. and after the first half
-table-behind : (head : List ℕ) (i x interval index : ℕ) (history : List ℕ) → length head ≡ headSize
+table-after : (head : List ℕ) (i x interval index : ℕ) (history : List ℕ) → length head ≡ headSize
     → stores (tableNumbers interval index) (head ++ tableBytes i x history) ≡ head ++ tableBytes interval index history
-table-behind head i x interval index history e =
+table-after head i x interval index history e =
     let t = tableBytes i x history in
-    ap (λ (l : List ℕ). put 2 l (headSize + tableIndexPlace) index) (put-behind 2 head t headSize tableIntervalPlace interval e)
-    ∙ put-behind 2 head (put 2 t tableIntervalPlace interval) headSize tableIndexPlace index e
+    ap (λ (l : List ℕ). put 2 l (headSize + tableIndexPlace) index) (put-after 2 head t headSize tableIntervalPlace interval e)
+    ∙ put-after 2 head (put 2 t tableIntervalPlace interval) headSize tableIndexPlace index e
     ∙ ap (λ (l : List ℕ). head ++ l) (table-stored i x interval index history)
 
 -- THE LAW of writing: it is enough to store the fields of the first half and the table's two numbers.
@@ -53,7 +53,7 @@ written r c b size spare fixed kept =
     let index = c .device .thermal .index in
     let head = form headSize (headFields c) in
     ap (stores (tableNumbers interval index)) (head-stored r c size spare ∙ ap (λ (l : List ℕ). head ++ l) (table-half r size ∙ table-is r headSize b (omega arith) fixed))
-    ∙ table-behind head _ _ interval index (part r (headSize + tableHeadSize) historySize) (length-form headSize (headFields c))
+    ∙ table-after head _ _ interval index (part r (headSize + tableHeadSize) historySize) (length-form headSize (headFields c))
     ∙ ap (λ (h : List ℕ). head ++ tableBytes interval index h) (sym kept)
 
 -- ---- which records have the right spare and fixed bytes

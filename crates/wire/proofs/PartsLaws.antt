@@ -131,9 +131,9 @@ pub put-front : (k : ℕ) (xs ys : List ℕ) (at v : ℕ) → at + k ≤ length 
 unfolding put
 put-front k xs ys at v h = sets-front (le k v) xs ys at (rw (length-le k v) h)
 
-pub put-behind : (k : ℕ) (xs ys : List ℕ) (n at v : ℕ) → length xs ≡ n → put k (xs ++ ys) (n + at) v ≡ xs ++ put k ys at v
+pub put-after : (k : ℕ) (xs ys : List ℕ) (n at v : ℕ) → length xs ≡ n → put k (xs ++ ys) (n + at) v ≡ xs ++ put k ys at v
 unfolding put
-put-behind k xs ys n at v e = ap (λ (m : ℕ). sets (xs ++ ys) (m + at) (le k v)) (sym e) ∙ sets-behind (le k v) xs ys at
+put-after k xs ys n at v e = ap (λ (m : ℕ). sets (xs ++ ys) (m + at) (le k v)) (sym e) ∙ sets-behind (le k v) xs ys at
 
 pub sets-append : (xs ys l : List ℕ) (i : ℕ) → sets l i (xs ++ ys) ≡ sets (sets l i xs) (i + length xs) ys
 sets-append [] ys l i = rw (add-zero i)
