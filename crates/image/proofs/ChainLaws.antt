@@ -8,33 +8,33 @@ use lib.Dec.{eqb}
 use borrow.Author.Tests.{eq-eqb, ne-eqb, le-leb, lt-leb}
 use Rattle.wire.specs.Numbers.{get}
 use Rattle.model.specs.Sizes.{trailerSize, entrySize, entryLimit}
-use Rattle.model.specs.Image.{Saved, savedAt, trailerPlace, noTrailer, previousPlace, linkPlace, entryHolds, entries, newest, readable, chainHolds}
+use Rattle.model.specs.Image.{Saved, savedAt, trailerPlace, noTrailer, previousPlace, linkPlace, entryHolds, entries, newestIn, readable, chainHolds}
 use Rattle.model.proofs.ImageLaws.{chain-every, newest-at}
 
-module _ (latest : Saved) (image : List ℕ) where
-  pub chain-none : (k at : ℕ) → k ≡ 0 → eqb at noTrailer ≡ chainHolds latest image k at
+module _ (newest : Saved) (image : List ℕ) where
+  pub chain-none : (k at : ℕ) → k ≡ 0 → eqb at noTrailer ≡ chainHolds newest image k at
   unfolding chainHolds
-  chain-none k at e = ap (λ (n : ℕ). chainHolds latest image n at) (sym e)
+  chain-none k at e = ap (λ (n : ℕ). chainHolds newest image n at) (sym e)
 
   -- entry k, and the chain from the place that its trailer points to
   chain-turn : (k at : ℕ) → 1 ≤ k
-      → chainHolds latest image k at ≡ (eqb at (trailerPlace k) && entryHolds latest image k && chainHolds latest image (k - 1) (get 4 image (at + linkPlace)))
+      → chainHolds newest image k at ≡ (eqb at (trailerPlace k) && entryHolds newest image k && chainHolds newest image (k - 1) (get 4 image (at + linkPlace)))
   unfolding chainHolds
   chain-turn zero at h = absurd (omega arith)
   chain-turn (suc k) at h =
-      ap (λ (n : ℕ). eqb at (trailerPlace (suc k)) && entryHolds latest image (suc k) && chainHolds latest image n (get 4 image (at + linkPlace))) (less k)
+      ap (λ (n : ℕ). eqb at (trailerPlace (suc k)) && entryHolds newest image (suc k) && chainHolds newest image n (get 4 image (at + linkPlace))) (less k)
     where
       less : (k : ℕ) → k ≡ suc k - 1
       less k = omega arith
 
-  pub chain-astray : (k at : ℕ) → 1 ≤ k → (at ≡ trailerPlace k → ⊥) → false ≡ chainHolds latest image k at
+  pub chain-astray : (k at : ℕ) → 1 ≤ k → (at ≡ trailerPlace k → ⊥) → false ≡ chainHolds newest image k at
   chain-astray k at h ne = sym (chain-turn k at h ∙ rw (ne-eqb at (trailerPlace k) ne))
 
-  pub chain-broken : (k at : ℕ) → 1 ≤ k → at ≡ trailerPlace k → entryHolds latest image k ≡ false → false ≡ chainHolds latest image k at
+  pub chain-broken : (k at : ℕ) → 1 ≤ k → at ≡ trailerPlace k → entryHolds newest image k ≡ false → false ≡ chainHolds newest image k at
   chain-broken k at h e f = sym (chain-turn k at h ∙ rw (eq-eqb at (trailerPlace k) e, f))
 
-  pub chain-on : (k at : ℕ) → 1 ≤ k → at ≡ trailerPlace k → entryHolds latest image k ≡ true
-      → chainHolds latest image (k - 1) (get 4 image (at + linkPlace)) ≡ chainHolds latest image k at
+  pub chain-on : (k at : ℕ) → 1 ≤ k → at ≡ trailerPlace k → entryHolds newest image k ≡ true
+      → chainHolds newest image (k - 1) (get 4 image (at + linkPlace)) ≡ chainHolds newest image k at
   chain-on k at h e t = sym (chain-turn k at h ∙ rw (eq-eqb at (trailerPlace k) e, t))
 
 -- ---- readable
@@ -54,14 +54,14 @@ module _ (image : List ℕ) (used : ℕ) where
 
   -- the answer of a chain test that gets only the newest entry's N
   pub readable-chain : used % entrySize ≡ 0 → used ≤ entrySize * entryLimit → 1 ≤ used → (answer : Bool)
-      → ((latest : Saved) → latest .native ≡ savedAt image (used - entrySize) .native → answer ≡ chainHolds latest image (entries used) (used - trailerSize))
+      → ((newest : Saved) → newest .native ≡ savedAt image (used - entrySize) .native → answer ≡ chainHolds newest image (entries used) (used - trailerSize))
       → answer ≡ readable image used
   unfolding readable
   readable-chain e h some answer holds =
       let n = entries used in
       let whole : used ≡ entrySize * n = omega arith in
       let last : previousPlace (suc n) ≡ used - trailerSize = rw (ne-eqb (suc n) 1 (λ x. omega arith)) (omega arith) in
-      holds (newest image used) (ap (λ (s : Saved). s .native) (newest-at image used e (omega arith)))
-      ∙ ap (chainHolds (newest image used) image n) (sym last)
-      ∙ chain-every (newest image used) image n (omega arith)
+      holds (newestIn image used) (ap (λ (s : Saved). s .native) (newest-at image used e (omega arith)))
+      ∙ ap (chainHolds (newestIn image used) image n) (sym last)
+      ∙ chain-every (newestIn image used) image n (omega arith)
       ∙ sym (rw (eq-eqb (used % entrySize) 0 e, le-leb used (entrySize * entryLimit) h))

@@ -301,11 +301,11 @@ module _ (image : List ℕ) (at k : ℕ) (b : Bytes image) (fits : at + trailerS
 -- ---- an entry
 
 -- THEOREM: entry k holds exactly if its body and its trailer pass the tests in place and it is like the newest.
-pub entry-in-place : (latest : Saved) (image : List ℕ) (at k : ℕ) → Bytes image → 1 ≤ k → k ≤ entryLimit → at ≡ trailerPlace k → entrySize * k ≤ length image
-    → (bodyInPlace image (at - bodySize) && alike latest (savedAt image (at - bodySize)) && trailerInPlace image at k) ≡ entryHolds latest image k
+pub entry-in-place : (newest : Saved) (image : List ℕ) (at k : ℕ) → Bytes image → 1 ≤ k → k ≤ entryLimit → at ≡ trailerPlace k → entrySize * k ≤ length image
+    → (bodyInPlace image (at - bodySize) && alike newest (savedAt image (at - bodySize)) && trailerInPlace image at k) ≡ entryHolds newest image k
 unfolding entryHolds
-entry-in-place latest image at k b low high e long =
-    ap (λ (p : ℕ). bodyInPlace image (p - bodySize) && alike latest (savedAt image (p - bodySize)) && trailerInPlace image p k) e
+entry-in-place newest image at k b low high e long =
+    ap (λ (p : ℕ). bodyInPlace image (p - bodySize) && alike newest (savedAt image (p - bodySize)) && trailerInPlace image p k) e
     ∙ rw (
       ← body-in-place image (trailerPlace k - bodySize) b (omega arith),
       ← trailer-in-place image (trailerPlace k) k b (omega arith) high,

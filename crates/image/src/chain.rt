@@ -16,7 +16,7 @@ ghost use Rattle.model.specs.Image.{Saved, chainHolds, readable};
 fn chain_holds(native: u64, image: &&[u8], at: usize, number: u32) -> bool
     requires { ⌜ number ≤ entryLimit ⌝ }
     requires long { ⌜ entrySize * number ≤ length (now (now image)) ⌝ }
-    ensures { λ r. ⌜ ((latest : Saved) → latest .native ≡ native → r ≡ chainHolds latest (now (now (image .entry))) number at) ⌝ }
+    ensures { λ r. ⌜ ((newest : Saved) → newest .native ≡ native → r ≡ chainHolds newest (now (now (image .entry))) number at) ⌝ }
 {
     if number == 0 {
         return at == entry::NO_TRAILER_AT;

@@ -61,7 +61,7 @@ fn body_holds(image: &[u8], at: usize) -> bool
 // "all entries have the same N": whether the body at `at` is like that of the newest entry, whose N is `native`.
 fn alike(native: u64, image: &[u8], at: usize) -> bool
     requires { ⌜ at + bodySize ≤ length (now image) ⌝ }
-    ensures { λ r. ⌜ ((latest : Saved) → latest .native ≡ native → r ≡ alike latest (savedAt (now (image .entry)) at)) ⌝ }
+    ensures { λ r. ⌜ ((newest : Saved) → newest .native ≡ native → r ≡ alike newest (savedAt (now (image .entry)) at)) ⌝ }
 {
     native_at(image, at) == native
 }
@@ -103,7 +103,7 @@ fn trailer_holds(image: &[u8], at: usize, number: u32) -> bool
 pub fn entry_holds(native: u64, image: &[u8], at: usize, number: u32) -> bool
     requires { ⌜ (1 ≤ number) × (number ≤ entryLimit) × (at ≡ trailerPlace number) ⌝ }
     requires long { ⌜ entrySize * number ≤ length (now image) ⌝ }
-    ensures { λ r. ⌜ ((latest : Saved) → latest .native ≡ native → r ≡ entryHolds latest (now (image .entry)) number) ⌝ }
+    ensures { λ r. ⌜ ((newest : Saved) → newest .native ≡ native → r ≡ entryHolds newest (now (image .entry)) number) ⌝ }
 {
     let body = body_holds(image, at - BODY);
     let same = alike(native, image, at - BODY);

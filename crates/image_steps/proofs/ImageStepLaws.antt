@@ -1,5 +1,4 @@
--- Save and power-on: what holds when their checks pass, and the two exits. A refusal changes nothing, and a step that is done is the
--- store's definition.
+-- Save and power-on: what holds when their checks pass.
 use mathlib.Core.Path.{_≡_, sym, _∙_}
 use mathlib.Core.Bool.{true}
 use mathlib.Core.List.{List}
@@ -9,14 +8,12 @@ use lib.ListN.{length}
 use lib.Dec.{leb, ltb}
 use borrow.Author.Tests.{eqb-true, leb-true, ltb-true}
 use Rattle.wire.specs.Choice.{firstFailed}
-use Rattle.wire.proofs.ChoiceLaws.{and-left, and-right, chosen-refusal, chosen-done, all-pass, pass-all}
+use Rattle.wire.proofs.ChoiceLaws.{and-left, and-right, all-pass, pass-all}
 use Rattle.model.specs.Sizes.{sectorSize, entrySize, entryLimit}
 use Rattle.model.specs.Image.{entries, imageChecks}
 use Rattle.store.specs.Areas.{recordSize, privateSize}
 use Rattle.store.specs.Sound.{sound}
-use Rattle.store.specs.Entries.{saveChecks, saveDone, saveBytes, powerOnChecks, powerOnDone, powerOnBytes}
-
--- ---- what passed
+use Rattle.store.specs.Entries.{saveChecks, powerOnChecks}
 
 pub record SavePassed (r image : List ℕ) (used : ℕ) : Type 0 where
   pub isSound : sound r ≡ true
@@ -46,23 +43,3 @@ power-on-passed r a disk image used e z =
       areaSized = eqb-true (length a) privateSize (all .1 .0);
       readable = pass-all (imageChecks (length disk / sectorSize) image used) (all .1 .1 .1);
     }
-
--- ---- the two exits
-
-module _ (r image : List ℕ) (used n : ℕ) where
-  pub save-refused : n ≡ firstFailed (saveChecks r image used) → (n ≡ 0 → ⊥) → saveBytes r image used ≡ record { answer = n; image = image; used = used }
-  unfolding saveBytes
-  save-refused e some = chosen-refusal n (firstFailed (saveChecks r image used)) (saveDone r image used) (λ (k : ℕ). record { answer = k; image = image; used = used }) e some
-
-  pub save-done : n ≡ firstFailed (saveChecks r image used) → n ≡ 0 → saveBytes r image used ≡ saveDone r image used
-  unfolding saveBytes
-  save-done e z = chosen-done n (firstFailed (saveChecks r image used)) (saveDone r image used) _ e z
-
-module _ (r a disk image : List ℕ) (used n : ℕ) where
-  pub power-on-refused : n ≡ firstFailed (powerOnChecks r a disk image used) → (n ≡ 0 → ⊥) → powerOnBytes r a disk image used ≡ record { answer = n; recordArea = r; privateArea = a }
-  unfolding powerOnBytes
-  power-on-refused e some = chosen-refusal n (firstFailed (powerOnChecks r a disk image used)) (powerOnDone disk image used) (λ (k : ℕ). record { answer = k; recordArea = r; privateArea = a }) e some
-
-  pub power-on-done : n ≡ firstFailed (powerOnChecks r a disk image used) → n ≡ 0 → powerOnBytes r a disk image used ≡ powerOnDone disk image used
-  unfolding powerOnBytes
-  power-on-done e z = chosen-done n (firstFailed (powerOnChecks r a disk image used)) (powerOnDone disk image used) _ e z

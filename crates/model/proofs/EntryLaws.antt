@@ -21,7 +21,7 @@ use Rattle.model.specs.Sizes.{sectorSize, nativeLimit, historySize, body
 use Rattle.model.specs.Key.{statesNamed}
 use Rattle.model.proofs.StateLaws.{states-ranges, ranges-states}
 use Rattle.model.specs.Temperature.{tableIndexPlace, tableHeadSize, tableFields, tableBytes}
-use Rattle.model.specs.Image.{Saved, nativePlace, visiblePlace, flagPlace, lifePlace, cachePlace, reorderingPlace, intervalPlace, optionsPlace, headSize, headFields, bodyBytes, hasBit, savedAt, savedIn, inRange, bodyHolds, tag, tagPlace, trailerFields, trailerBytes, alike}
+use Rattle.model.specs.Image.{Saved, nativePlace, visiblePlace, flagPlace, lifePlace, cachePlace, reorderingPlace, intervalPlace, optionsPlace, headSize, headFields, bodyBytes, hasBit, savedAt, inRange, bodyHolds, tag, tagPlace, trailerFields, trailerBytes, alike}
 use Rattle.model.specs.Valid.{StateValid}
 use Rattle.model.proofs.FormatLaws.{table-reads, table-bytes}
 
@@ -105,7 +105,7 @@ options-back false false true = (refl, refl, refl)
 options-back false false false = (refl, refl, refl)
 
 -- THE LAW of an entry's body: what is saved is read back.
-pub saved-back : (s : Saved) → SavedFits s → savedIn (bodyBytes s) ≡ s
+pub saved-back : (s : Saved) → SavedFits s → savedAt (bodyBytes s) 0 ≡ s
 unfolding savedAt
 saved-back s f =
     let sizes = head-reads s f in
@@ -127,7 +127,7 @@ saved-back s f =
     }
 
 -- .. and a body decodes to the same values, read from it alone or in place
-pub saved-at : (run : List ℕ) (at : ℕ) → savedIn (part run at bodySize) ≡ savedAt run at
+pub saved-at : (run : List ℕ) (at : ℕ) → savedAt (part run at bodySize) 0 ≡ savedAt run at
 unfolding savedAt
 saved-at run at =
     let number : (k i : ℕ) → i + k ≤ bodySize → get k (part run at bodySize) i ≡ get k run (at + i) = λ k i h. get-part k run at bodySize i h in
@@ -167,7 +167,7 @@ bytes-trailer k = bytes-append (form tagPlace (trailerFields k)) tag (bytes-form
         (bytes-cons 0x43 (drop 2 tag) (omega arith) (bytes-cons 0x54 (drop 3 tag) (omega arith) (bytes-cons 0x45 [] (omega arith) bytes-nil)))
 
 -- the values that are read from a body of bytes fit their places
-pub read-fits : (b : List ℕ) → Bytes b → length b ≡ bodySize → SavedFits (savedIn b)
+pub read-fits : (b : List ℕ) → Bytes b → length b ≡ bodySize → SavedFits (savedAt b 0)
 unfolding savedAt
 read-fits b h e =
     record {

@@ -16,7 +16,7 @@ use Rattle.model.specs.Device.{idle, Feature, Device}
 use Rattle.model.specs.Key.{highestState}
 use Rattle.model.specs.Temperature.{emptyHistory, emptyIndex}
 use Rattle.model.specs.Fill.{nothingPending}
-use Rattle.model.specs.Image.{Saved, savedIn, inRange, bodyAt, entries, newest, readable, blank, kept, powerOnThermal, powerOn, restored}
+use Rattle.model.specs.Image.{Saved, savedAt, inRange, bodyAt, entries, newestIn, readable, blank, kept, powerOnThermal, powerOn, restored}
 use Rattle.model.specs.Valid.{TimerValid, StateValid, ThermalValid, Valid}
 use Rattle.model.proofs.EntryLaws.{SavedFits, Ranged, range-parts, parts-range, range-fits}
 use Rattle.model.proofs.ImageLaws.{form-saved, readable-form}
@@ -104,22 +104,22 @@ pub blank-fits : (native : ℕ) → 1 ≤ native → native ≤ nativeLimit → 
 blank-fits native low high = range-fits (blank native) (blank-range native low high) (omega arith) length-empty bytes-empty
 
 newest-form : (image : List ℕ) (used : ℕ) → Bytes image → readable image used ≡ true → (used ≡ 0 → ⊥)
-    → (s : Saved) × (newest image used ≡ s) × SavedFits s × (inRange s ≡ true)
+    → (s : Saved) × (newestIn image used ≡ s) × SavedFits s × (inRange s ≡ true)
 newest-form image used b h n =
     let f = readable-form image used b h in
     let number : entries used ≡ f .number = omega (arith, f .usedLength) in
     let low : 1 ≤ f .number = omega (arith, f .usedLength) in
     let e = f .each (f .number) low (omega arith) in (
       e .saved,
-      ap (λ (n : ℕ). savedIn (bodyAt image n)) number ∙ form-saved (f .latest) image (f .number) low e,
+      ap (λ (n : ℕ). savedAt (bodyAt image n) 0) number ∙ form-saved (f .newest) image (f .number) low e,
       e .fits,
       e .ranged,
     )
 
-pub newest-fits : (image : List ℕ) (used : ℕ) → Bytes image → readable image used ≡ true → (used ≡ 0 → ⊥) → SavedFits (newest image used)
+pub newest-fits : (image : List ℕ) (used : ℕ) → Bytes image → readable image used ≡ true → (used ≡ 0 → ⊥) → SavedFits (newestIn image used)
 newest-fits image used b h n = let f = newest-form image used b h n in rw (f .1) (f .2)
 
-pub newest-ranged : (image : List ℕ) (used : ℕ) → Bytes image → readable image used ≡ true → (used ≡ 0 → ⊥) → inRange (newest image used) ≡ true
+pub newest-ranged : (image : List ℕ) (used : ℕ) → Bytes image → readable image used ≡ true → (used ≡ 0 → ⊥) → inRange (newestIn image used) ≡ true
 newest-ranged image used b h n = let f = newest-form image used b h n in rw (f .1) (f .3)
 
 -- ---- what is kept over power

@@ -18,7 +18,7 @@ use Rattle.wire.proofs.BytesLaws.{bytes-sets, bytes-append}
 use Rattle.model.specs.Sizes.{sectorSize, nativeLimit, bodySize, trailerSize, entrySize, entryLimit, imageFull}
 use Rattle.model.specs.Device.{Device}
 use Rattle.model.specs.Valid.{Valid}
-use Rattle.model.specs.Image.{Saved, savedFrom, bodyBytes, savedIn, inRange, trailerBytes, bodyAt, trailerPlace, entryHolds, entries, newest, readable, sameDisk, saveChecks, savedImage, powerOnChecks, restored}
+use Rattle.model.specs.Image.{Saved, savedFrom, bodyBytes, savedAt, inRange, trailerBytes, bodyAt, trailerPlace, entryHolds, entries, newestIn, readable, sameDisk, saveChecks, savedImage, powerOnChecks, restored}
 use Rattle.model.proofs.EntryLaws.{bytes-body, bytes-trailer, length-body, length-trailer, SavedFits, Ranged, parts-range, range-fits, AreAlike, alike-self}
 use Rattle.model.proofs.ImageLaws.{holds-alike, EntryForm, form-saved, form-holds, Readable, readable-parts, parts-readable}
 
@@ -84,10 +84,10 @@ unfolding savedImage
 saved-after d image used i v h = getD-sets-after (added d used) image used i (rw (length-added d used v) h)
 
 -- the earlier entries hold as before
-entry-before : (latest : Saved) (d : Device) (image : List ℕ) (used k : ℕ) → 1 ≤ k → entrySize * k ≤ used
-    → entryHolds latest (savedImage d image used) k ≡ entryHolds latest image k
+entry-before : (newest : Saved) (d : Device) (image : List ℕ) (used k : ℕ) → 1 ≤ k → entrySize * k ≤ used
+    → entryHolds newest (savedImage d image used) k ≡ entryHolds newest image k
 unfolding savedImage entryHolds
-entry-before latest d image used k low h =
+entry-before newest d image used k low h =
     rw (
       part-before (added d used) image used (trailerPlace k - bodySize) bodySize (omega arith),
       part-before (added d used) image used (trailerPlace k) trailerSize (omega arith),
@@ -138,21 +138,21 @@ module _ (d : Device) (image : List ℕ) (used : ℕ) (valid : Valid d) (passed 
       }
 
   -- the newest entry is what was saved
-  pub newest-saved : newest (savedImage d image used) (used + entrySize) ≡ savedFrom d
+  pub newest-saved : newestIn (savedImage d image used) (used + entrySize) ≡ savedFrom d
   unfolding new-entry
   newest-saved =
-      ap (λ (n : ℕ). savedIn (bodyAt (savedImage d image used) n)) (entries-after used)
+      ap (λ (n : ℕ). savedAt (bodyAt (savedImage d image used) n) 0) (entries-after used)
       ∙ form-saved (savedFrom d) (savedImage d image used) (suc (entries used)) (omega arith) new-entry
 
-  newest-native : newest (savedImage d image used) (used + entrySize) .native ≡ d .native
+  newest-native : newestIn (savedImage d image used) (used + entrySize) .native ≡ d .native
   unfolding savedFrom
   newest-native = ap (λ (s : Saved). s .native) newest-saved
 
   -- the earlier entries are this disk's, and the new one is like the newest of them
-  like-before : 1 ≤ entries used → AreAlike (savedFrom d) (newest image used)
+  like-before : 1 ≤ entries used → AreAlike (savedFrom d) (newestIn image used)
   unfolding savedFrom
   like-before h =
-      record { sameNative = eqb-true (newest image used .native) (d .native) (rw (ne-eqb used 0 (omega arith)) at (accepted .ownDisk)) }
+      record { sameNative = eqb-true (newestIn image used .native) (d .native) (rw (ne-eqb used 0 (omega arith)) at (accepted .ownDisk)) }
 
   -- every entry of the new image holds
   each-holds : (k : ℕ) → 1 ≤ k → k ≤ suc (entries used) → entryHolds (savedFrom d) (savedImage d image used) k ≡ true
@@ -165,7 +165,7 @@ module _ (d : Device) (image : List ℕ) (used : ℕ) (valid : Valid d) (passed 
       go false e =
           let other = eqb-false k (suc (entries used)) e in
           entry-before (savedFrom d) d image used k low (omega arith)
-          ∙ holds-alike (savedFrom d) (newest image used) image k (like-before (omega arith))
+          ∙ holds-alike (savedFrom d) (newestIn image used) image k (like-before (omega arith))
           ∙ accepted .readableBefore .each k low (omega arith)
 
   pub readable-saved : readable (savedImage d image used) (used + entrySize) ≡ true
@@ -183,8 +183,8 @@ module _ (d : Device) (image : List ℕ) (used : ℕ) (valid : Valid d) (passed 
 
   pub same-disk-saved : sameDisk (d .native) (savedImage d image used) (used + entrySize) ≡ true
   same-disk-saved =
-      or-right (eqb (used + entrySize) 0) (eqb (newest (savedImage d image used) (used + entrySize) .native) (d .native))
-      (eq-eqb (newest (savedImage d image used) (used + entrySize) .native) (d .native) newest-native)
+      or-right (eqb (used + entrySize) 0) (eqb (newestIn (savedImage d image used) (used + entrySize) .native) (d .native))
+      (eq-eqb (newestIn (savedImage d image used) (used + entrySize) .native) (d .native) newest-native)
 
   pub restored-saved : restored (d .native) (savedImage d image used) (used + entrySize) ≡ savedFrom d
   unfolding restored

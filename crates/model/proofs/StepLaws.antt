@@ -7,11 +7,11 @@ use mathlib.Core.List.{List, [], _∷_}
 use lib.ListN.{length}
 use lib.Dec.{eqb, leb}
 use borrow.Author.Tests.{eq-eqb, ne-eqb, lt-ltb}
-use Rattle.wire.specs.Choice.{if_then_else_, Check, firstFailed}
-use Rattle.wire.proofs.ChoiceLaws.{Numbered, pass-all}
+use Rattle.wire.specs.Choice.{if_then_else_, Check, firstFailed, ifPassed}
+use Rattle.wire.proofs.ChoiceLaws.{Numbered, attempt-refused, attempt-done, pass-all}
 use Rattle.model.specs.Sizes.{portCount, mailboxSize, done, refusalOrder}
 use Rattle.model.specs.Machine.{Port, empty, request, reply, Machine, whileRunning, withPort}
-use Rattle.model.specs.Step.{Step, take, serve, give, work, owner, save, powerOn, Seen, Outcome, checks, unchanged, seenDone, answeredMailbox, does, attempt, step, trace}
+use Rattle.model.specs.Step.{Step, take, serve, give, work, owner, save, powerOn, Seen, Outcome, checks, unchanged, seenDone, answeredMailbox, does, guarded, step, trace}
 
 -- the trace of a list is the first step's outcome, and the trace of the rest from the state that it leaves
 pub trace-first : {S : Type 0} (f : Step → S → Outcome S) (x : Step) (xs : List Step) (s : S)
@@ -21,12 +21,12 @@ trace-first f x xs s = (refl, refl)
 -- a step that no check refuses is done
 pub step-done : (x : Step) (M : Machine) → firstFailed (checks x M) ≡ 0 → step x M ≡ record { state = does x M; seen = seenDone x M }
 unfolding step
-step-done x M e = ap (λ (n : ℕ). attempt n M (unchanged x n) (record { state = does x M; seen = seenDone x M })) e
+step-done x M e = attempt-done (guarded x M) 0 (sym e) refl
 
 -- "A nonzero answer changes nothing anywhere": the machine, the mailbox and the image are unchanged, and the count is 0
 pub step-refused : (x : Step) (M : Machine) (n : ℕ) → firstFailed (checks x M) ≡ suc n → step x M ≡ record { state = M; seen = unchanged x (suc n) }
 unfolding step
-step-refused x M n e = ap (λ (n : ℕ). attempt n M (unchanged x n) (record { state = does x M; seen = seenDone x M })) e
+step-refused x M n e = attempt-refused (guarded x M) (suc n) (sym e) (λ z. omega (arith, z))
 
 -- the answer is the number of the first check that fails
 seen-done : (x : Step) (M : Machine) → seenDone x M .answer ≡ done
@@ -137,8 +137,8 @@ unfolding step
 give-blind p m n M e = rw e (go (firstFailed (checks (give p n) M)))
   where
     go : (k : ℕ)
-        → attempt k M (unchanged (give p m) k) (record { state = does (give p m) M; seen = seenDone (give p m) M }) .state
-        ≡ attempt k M (unchanged (give p n) k) (record { state = does (give p n) M; seen = seenDone (give p n) M }) .state
+        → ifPassed k (guarded (give p m) M .done) (guarded (give p m) M .refused k) .state
+        ≡ ifPassed k (guarded (give p n) M .done) (guarded (give p n) M .refused k) .state
     go zero = refl
     go (suc k) = refl
 

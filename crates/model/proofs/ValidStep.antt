@@ -25,7 +25,7 @@ use Rattle.model.specs.Decide.{Writing, noWrite, oneSector, newFill, Sen
 use Rattle.model.specs.Perform.{written, volumeAfter, fillSectorAfter, contentRead, sent, replyOf}
 use Rattle.model.specs.Owner.{setLock}
 use Rattle.model.specs.Owner.{setVisible as setVisibleDevice, sample as sampleDevice}
-use Rattle.model.specs.Image.{readable, powerOnChecks, sameDisk, restored, blank, newest}
+use Rattle.model.specs.Image.{readable, powerOnChecks, sameDisk, restored, blank, newestIn}
 use Rattle.model.specs.Image.{powerOn as powerOnDevice}
 use Rattle.model.specs.Machine.{Port, empty, request, reply, Machine, whileRunning, machine, withPort, heldBytes}
 use Rattle.model.specs.Step.{OwnerStep, lock, unlock, setVisible, sample, Step, take, serve, give, work, owner, save, powerOn, goodValue, checks, does, isRequest, volume, served, serveDecided, worked, poweredOn, step}
@@ -277,19 +277,19 @@ pub restored-valid : (native : ℕ) (image : List ℕ) (used : ℕ) → 1 ≤ na
 unfolding restored
 restored-valid native image used some most b r = go (eqb used 0) refl
   where
-    go : (z : Bool) → eqb used 0 ≡ z → Valid (powerOnDevice (if z then blank native else newest image used))
+    go : (z : Bool) → eqb used 0 ≡ z → Valid (powerOnDevice (if z then blank native else newestIn image used))
     go true e = power-on-valid (blank native) (blank-fits native some most) (blank-ranged native some most)
     go false e =
-        power-on-valid (newest image used) (newest-fits image used b r (eqb-false used 0 e)) (newest-ranged image used b r (eqb-false used 0 e))
+        power-on-valid (newestIn image used) (newest-fits image used b r (eqb-false used 0 e)) (newest-ranged image used b r (eqb-false used 0 e))
 
 -- .. and has this disk's N
 pub restored-native : (native : ℕ) (image : List ℕ) (used : ℕ) → sameDisk native image used ≡ true → powerOnDevice (restored native image used) .native ≡ native
 unfolding restored powerOnDevice
 restored-native native image used h = go (eqb used 0) h
   where
-    go : (z : Bool) → (z || eqb (newest image used .native) native) ≡ true → (if z then blank native else newest image used) .native ≡ native
+    go : (z : Bool) → (z || eqb (newestIn image used .native) native) ≡ true → (if z then blank native else newestIn image used) .native ≡ native
     go true e = refl
-    go false e = eqb-true (newest image used .native) native e
+    go false e = eqb-true (newestIn image used .native) native e
 
 pub power-on-machine : (disk : Disk) (image : List ℕ) (used : ℕ) → Bytes (disk .sectors) → Bytes image → firstFailed (powerOnChecks (disk .sectors) image used) ≡ 0
     → MachineValid (poweredOn disk image used)

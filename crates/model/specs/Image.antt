@@ -117,9 +117,6 @@ savedAt run at =
       index = get 2 run (at + (headSize + tableIndexPlace));
     }
 
-abbrev pub savedIn : List ℕ → Saved
-savedIn body = savedAt body 0
-
 -- "values in range"
 unfoldable pub inRange : Saved → Bool
 inRange s =
@@ -130,7 +127,7 @@ inRange s =
 
 -- A body holds if it is, byte for byte, the body of values in range: so "zeros zero, table interval equal to feature 3".
 unfoldable pub bodyHolds : List ℕ → Bool
-bodyHolds b = same (bodyBytes (savedIn b)) b && inRange (savedIn b)
+bodyHolds b = same (bodyBytes (savedAt b 0)) b && inRange (savedAt b 0)
 
 -- "then the letters SCTE"
 abbrev pub tag : List ℕ
@@ -171,12 +168,12 @@ trailerAt image k = part image (trailerPlace k) trailerSize
 
 -- "all entries have the same N": whether an entry is like the newest. W-204 adds the form here.
 unfoldable pub alike : Saved → Saved → Bool
-alike latest s = eqb (s .native) (latest .native)
+alike newest s = eqb (s .native) (newest .native)
 
 -- entry k holds: its body, like the newest, and its trailer
 unfoldable pub entryHolds : Saved → Image → ℕ → Bool
-entryHolds latest image k =
-    bodyHolds (bodyAt image k) && alike latest (savedIn (bodyAt image k)) && same (trailerAt image k) (trailerBytes k)
+entryHolds newest image k =
+    bodyHolds (bodyAt image k) && alike newest (savedAt (bodyAt image k) 0) && same (trailerAt image k) (trailerBytes k)
 
 -- ---- an image
 
@@ -189,26 +186,26 @@ abbrev pub entries : ℕ → ℕ
 entries used = used / entrySize
 
 -- "the newest entry"
-abbrev pub newest : Image → ℕ → Saved
-newest image used = savedIn (bodyAt image (entries used))
+abbrev pub newestIn : Image → ℕ → Saved
+newestIn image used = savedAt (bodyAt image (entries used)) 0
 
 -- "The used length is a multiple of 560, at most 65,520; all entries have the same N. .. every entry must hold"
 unfoldable pub readable : Image → ℕ → Bool
 readable image used =
     eqb (used % entrySize) 0
     && leb used (entrySize * entryLimit)
-    && every (entries used) (entryHolds (newest image used) image)
+    && every (entries used) (entryHolds (newestIn image used) image)
 
 -- "Reading starts at the last trailer and follows the chain back": n entries, the last trailer at a place. It is equivalent to
 -- "every entry" above (proofs/ImageLaws.antt, chain-every).
 unfoldable pub chainHolds : Saved → Image → ℕ → ℕ → Bool
-chainHolds latest image zero at = eqb at noTrailer
-chainHolds latest image (suc k) at =
-    eqb at (trailerPlace (suc k)) && entryHolds latest image (suc k) && chainHolds latest image k (get 4 image (at + linkPlace))
+chainHolds newest image zero at = eqb at noTrailer
+chainHolds newest image (suc k) at =
+    eqb at (trailerPlace (suc k)) && entryHolds newest image (suc k) && chainHolds newest image k (get 4 image (at + linkPlace))
 
 -- whether the image is empty or its newest entry is this disk's
 abbrev pub sameDisk : ℕ → Image → ℕ → Bool
-sameDisk native image used = eqb used 0 || eqb (newest image used .native) native
+sameDisk native image used = eqb used 0 || eqb (newestIn image used .native) native
 
 -- "an image's used length exceeds its buffer" (2); "image not readable by the rules below" (6); "newest entry's N is not this disk's" (7):
 -- what a save and a power-on require of an image
@@ -303,4 +300,4 @@ powerOn s =
 
 -- ".. from length 0 ..; otherwise the newest entry"
 unfoldable pub restored : ℕ → Image → ℕ → Saved
-restored native image used = if eqb used 0 then blank native else newest image used
+restored native image used = if eqb used 0 then blank native else newestIn image used

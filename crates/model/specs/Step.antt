@@ -4,7 +4,7 @@ use Prim.Native.Nat.{ℕ, _+_, _/_}
 use mathlib.Core.List.{List, [], _∷_}
 use lib.ListN.{length}
 use lib.Dec.{eqb, ltb}
-use Rattle.wire.specs.Choice.{between, Check, firstFailed, ifPassed}
+use Rattle.wire.specs.Choice.{between, Check, firstFailed, Guarded, attempt}
 use Rattle.model.specs.Sizes.{sectorSize, portCount, mailboxSize, entrySize, done, badPort, badLength, badStage, badValue}
 use Rattle.model.specs.Device.{Device}
 use Rattle.model.specs.Disk.{Disk}
@@ -157,13 +157,16 @@ does (powerOn image used) M = poweredOn (M .disk) image used
 -- ---- a step, and a list of steps
 
 -- "A nonzero answer changes nothing anywhere; work then reports 0."
-abbrev pub attempt : {S : Type 0} → ℕ → S → Seen → Outcome S → Outcome S
-attempt n s refusal success = ifPassed n success (record { state = s; seen = refusal })
+abbrev pub guarded : Step → Machine → Guarded (Outcome Machine)
+guarded x M =
+    record {
+      checks = checks x M;
+      done = record { state = does x M; seen = seenDone x M };
+      refused = λ n. record { state = M; seen = unchanged x n };
+    }
 
 unfoldable pub step : Step → Machine → Outcome Machine
-step x M =
-    let n = firstFailed (checks x M) in
-    attempt n M (unchanged x n) (record { state = does x M; seen = seenDone x M })
+step x M = attempt (guarded x M)
 
 -- the outcome of every step of a list, each from the state that the previous one left
 abbrev pub trace : {S : Type 0} → (Step → S → Outcome S) → List Step → S → List (Outcome S)

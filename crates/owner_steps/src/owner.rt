@@ -3,13 +3,14 @@ use layout::answer;
 ghost use mathlib.Core.Path.{_≡_};
 ghost use mathlib.Core.List.{[], _∷_};
 ghost use Rattle.model.specs.Owner.{setLock};
-ghost use Rattle.store.specs.Entries.{soundRecord, ownerBytes, lockBytes, unlockBytes, visibleChecks, setVisibleBytes, sampleBytes};
-ghost use Rattle.wire.specs.Choice.{firstFailed};
+ghost use Rattle.model.specs.Step.{setVisible};
+ghost use Rattle.store.specs.Entries.{soundRecord, deviceEntry, lockBytes, unlockBytes, ownerChecks, setVisibleBytes, sampleBytes};
+ghost use Rattle.wire.specs.Choice.{firstFailed, attempt};
 
 // "Locking, unlocking and setting V do the same as other requests": they stop a fill, and nothing stays pending.
 fn put_lock(device: &mut [u8], locked: bool) -> u32
-    ensures { λ n. ⌜ n ≡ ownerBytes (soundRecord (now (device .entry)) ∷ []) (setLock locked) (now (device .entry)) .answer ⌝ }
-    ensures device { λ _. ⌜ now (device .exit) ≡ ownerBytes (soundRecord (now (device .entry)) ∷ []) (setLock locked) (now (device .entry)) .recordArea ⌝ }
+    ensures { λ n. ⌜ n ≡ attempt (deviceEntry (soundRecord (now (device .entry)) ∷ []) (setLock locked) (now (device .entry))) .answer ⌝ }
+    ensures device { λ _. ⌜ now (device .exit) ≡ attempt (deviceEntry (soundRecord (now (device .entry)) ∷ []) (setLock locked) (now (device .entry))) .recordArea ⌝ }
 {
     if !record_check::sound(device) {
         return answer::BAD_RECORD;
@@ -36,7 +37,7 @@ pub fn unlock(device: &mut [u8]) -> u32
 
 // "V asked is 0 or above N": 5.
 fn visible_refusal(device: &[u8], v: u64) -> u32
-    ensures { λ n. ⌜ n ≡ firstFailed (visibleChecks (now (device .entry)) v) ⌝ }
+    ensures { λ n. ⌜ n ≡ firstFailed (ownerChecks (setVisible v) (now (device .entry))) ⌝ }
 {
     if !record_check::sound(device) {
         return answer::BAD_RECORD;

@@ -6,9 +6,9 @@ use Prim.Native.Nat.{ℕ, _*_, _≤_, _<_}
 use native.Mathlib.Omega.{arith}
 use lib.ListN.{length}
 use borrow.Author.Tests.{eqb-true, ltb-true}
-use Rattle.wire.specs.Choice.{if_then_else_, Check, firstFailed, ifPassed}
+use Rattle.wire.specs.Choice.{if_then_else_, Check, firstFailed, ifPassed, Guarded, attempt}
 use Rattle.wire.specs.Bytes.{Bytes}
-use Rattle.wire.proofs.ChoiceLaws.{Numbered, passed-not, chosen-refusal, chosen-done, all-pass, pass-all}
+use Rattle.wire.proofs.ChoiceLaws.{Numbered, passed-not, attempt-refused, attempt-done, all-pass, pass-all}
 use Rattle.model.specs.Sizes.{sectorSize, nativeLimit, portCount, mailboxSize}
 use Rattle.store.specs.Areas.{recordSize, privateSize}
 use Rattle.store.specs.Record.{Stage, held, decode}
@@ -72,14 +72,17 @@ module _ (r : List ℕ) (p : ℕ) (a disk : List ℕ) (n : ℕ) where
   abbrev slotChecks : List Check
   slotChecks = goodPort p ∷ inStage held r p ∷ []
 
-  both : firstFailed (serveChecks r p a disk) ≡ ifPassed (firstFailed (workChecks r a disk)) (firstFailed slotChecks) (firstFailed (workChecks r a disk))
+  abbrev workThenSlot : Guarded ℕ
+  workThenSlot = record { checks = workChecks r a disk; done = firstFailed slotChecks; refused = λ k. k }
+
+  both : firstFailed (serveChecks r p a disk) ≡ attempt workThenSlot
   both = first-then 4 (workChecks r a disk) slotChecks (omega arith)
 
   pub serve-first : n ≡ firstFailed (workChecks r a disk) → (n ≡ 0 → ⊥) → n ≡ firstFailed (serveChecks r p a disk)
-  serve-first e some = sym (both ∙ chosen-refusal n (firstFailed (workChecks r a disk)) (firstFailed slotChecks) (λ (k : ℕ). k) e some)
+  serve-first e some = sym (both ∙ attempt-refused workThenSlot n e some)
 
   pub serve-second : n ≡ firstFailed (workChecks r a disk) → n ≡ 0 → firstFailed slotChecks ≡ firstFailed (serveChecks r p a disk)
-  serve-second e z = sym (both ∙ chosen-done n (firstFailed (workChecks r a disk)) (firstFailed slotChecks) (firstFailed (workChecks r a disk)) e z)
+  serve-second e z = sym (both ∙ attempt-done workThenSlot n e z)
 
 -- .. so if they pass, work's do
 pub serve-passed : (r : List ℕ) (p : ℕ) (a disk : List ℕ) {n : ℕ} → n ≡ firstFailed (serveChecks r p a disk) → n ≡ 0 → DiskPassed r a disk × (p < portCount)

@@ -8,8 +8,8 @@ use mathlib.Core.List.{List, [], _∷_}
 use lib.ListN.{length, drop}
 use lib.Dec.{eqb, ltb, leb}
 use borrow.Author.Tests.{eqb-true, eqb-false, eq-eqb, ltb-true, lt-ltb, leb-true, leb-false, le-leb}
-use Rattle.wire.specs.Choice.{if_then_else_, Check, firstFailed, ifPassed}
-use Rattle.wire.proofs.ChoiceLaws.{Numbered, and-left, and-right, between-within, first-bound, all-pass, pass-all}
+use Rattle.wire.specs.Choice.{if_then_else_, Check, firstFailed}
+use Rattle.wire.proofs.ChoiceLaws.{Numbered, and-left, and-right, between-within, first-bound, attempt-answer, all-pass, pass-all}
 use Rattle.model.specs.Sizes.{sectorSize, nativeLimit, mailboxSize}
 use Rattle.model.specs.Image.{wholeSectors, readable, sameDisk}
 use Rattle.model.specs.Machine.{Machine, request}
@@ -23,7 +23,7 @@ use Rattle.store.specs.Areas.{recordSize, privateSize}
 use Rattle.store.specs.Record.{decode}
 use Rattle.store.specs.Sound.{sound}
 use Rattle.store.specs.Store.{Store, machineOf}
-use Rattle.store.specs.Entries.{SaveAfter, saveChecks, saveDone, saveBytes, powerOnChecks, powerOnBytes}
+use Rattle.store.specs.Entries.{SaveAfter, saveChecks, saveEntry, saveBytes, powerOnChecks, powerOnBytes}
 use Rattle.store.specs.OnStore.{onStore}
 use Rattle.store.proofs.ExitLaws.{storeChecks, doneStore, doneSeen, on-refused, on-done}
 use Rattle.store.proofs.FollowLaws.{StoreValid, machine-valid}
@@ -189,13 +189,9 @@ power-on-fresh r a disk image n size private sectors some most =
 
 -- ---- save
 
-save-number : (n : ℕ) (x y : SaveAfter) → x .answer ≡ 0 → y .answer ≡ n → ifPassed n x y .answer ≡ n
-save-number zero x y p q = p
-save-number (suc n) x y p q = q
-
 save-answer : (r image : List ℕ) (used : ℕ) → saveBytes r image used .answer ≡ firstFailed (saveChecks r image used)
 unfolding saveBytes
-save-answer r image used = save-number (firstFailed (saveChecks r image used)) (saveDone r image used) _ refl refl
+save-answer r image used = attempt-answer (saveEntry r image used) (λ (o : SaveAfter). o .answer) refl (λ n. refl)
 
 -- THEOREM: a save answers 0 exactly if the paper names no refusal: the record is sound, the used length is within the buffer, the image is readable, its
 -- newest entry this disk's, and it has room: fewer than 117 entries, and 560 bytes more in the buffer.

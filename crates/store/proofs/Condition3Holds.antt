@@ -1,12 +1,12 @@
 -- Condition 3 holds: a single theorem over every list of steps.
 use mathlib.Core.Path.{_≡_, refl, sym, ap, ap₂, _∙_}
-use Prim.Native.Nat.{ℕ, zero, suc}
+use Prim.Native.Nat.{ℕ}
 use native.Mathlib.Omega.{arith}
 use mathlib.Core.List.{List, [], _∷_, map}
-use Rattle.wire.specs.Choice.{firstFailed, ifPassed}
+use Rattle.wire.specs.Choice.{firstFailed}
 use Rattle.wire.specs.Parts.{zeros}
 use Rattle.wire.specs.Bytes.{Bytes}
-use Rattle.wire.proofs.ChoiceLaws.{Numbered, all-pass, pass-all}
+use Rattle.wire.proofs.ChoiceLaws.{Numbered, attempt-done, attempt-answer, all-pass, pass-all}
 use Rattle.model.specs.Image.{powerOnChecks as diskChecks}
 use Rattle.model.specs.Disk.{Disk, hiddenPart}
 use Rattle.model.specs.Machine.{Machine}
@@ -17,7 +17,7 @@ use Rattle.model.proofs.HiddenLaws.{step-hidden}
 use Rattle.store.specs.Areas.{privateSize}
 use Rattle.store.specs.Record.{encode}
 use Rattle.store.specs.Store.{Store, machineOf}
-use Rattle.store.specs.Entries.{PowerOnAfter, powerOnChecks, poweredContents, powerOnDone, powerOnBytes}
+use Rattle.store.specs.Entries.{PowerOnAfter, powerOnChecks, poweredContents, powerOnEntry, powerOnBytes}
 use Rattle.store.specs.OnStore.{store, onStore}
 use Rattle.store.specs.Condition3.{asMachine, HiddenKept, started, FollowsMachine, Condition3}
 use Rattle.store.proofs.FollowLaws.{StoreValid, machine-valid}
@@ -46,20 +46,13 @@ list-hidden (x ∷ xs) s fed v =
 
 -- ---- the first power-on
 
-passed : (n : ℕ) (x y : PowerOnAfter) → x .answer ≡ 0 → y .answer ≡ n → ifPassed n x y .answer ≡ n
-passed zero x y p q = p
-passed (suc n) x y p q = q
-
 module _ (r a sectors image : List ℕ) (used : ℕ) where
   numbered : Numbered 8 (powerOnChecks r a sectors image used)
   numbered = omega arith
 
   pub power-on-answer : powerOnBytes r a sectors image used .answer ≡ firstFailed (powerOnChecks r a sectors image used)
   unfolding powerOnBytes
-  power-on-answer =
-      passed (firstFailed (powerOnChecks r a sectors image used))
-      (powerOnDone sectors image used)
-      (record { answer = firstFailed (powerOnChecks r a sectors image used); recordArea = r; privateArea = a }) refl refl
+  power-on-answer = attempt-answer (powerOnEntry r a sectors image used) (λ (o : PowerOnAfter). o .answer) refl (λ n. refl)
 
 module _ (r a : List ℕ) (disk : Disk) (image : List ℕ) (used : ℕ) where
   abbrev sectors : List ℕ
@@ -75,7 +68,7 @@ module _ (r a : List ℕ) (disk : Disk) (image : List ℕ) (used : ℕ) where
 
     started-is : started r a disk image used ≡ store (encode (poweredContents sectors image used)) (zeros privateSize) disk
     unfolding powerOnBytes
-    started-is = rw on-passed
+    started-is = rw (attempt-done (powerOnEntry r a sectors image used) 0 (sym on-passed) refl)
 
     module _ (diskBytes : Bytes sectors) (imageBytes : Bytes image) where
       powered : StoreValid (store (encode (poweredContents sectors image used)) (zeros privateSize) disk)

@@ -2,18 +2,18 @@
 use mathlib.Core.Path.{_≡_, refl}
 use Prim.Native.Nat.{ℕ, suc}
 use mathlib.Core.List.{List, []}
-use Rattle.wire.specs.Choice.{Check, firstFailed}
+use Rattle.wire.specs.Choice.{Check, firstFailed, attempt}
 use Rattle.model.specs.Sizes.{done}
 use Rattle.model.specs.Step.{OwnerStep, lock, unlock, setVisible, sample, Step, take, serve, give, work, owner, save, powerOn, Seen, answerOnly, answeredMailbox, answeredImage, unchanged, ownerRule}
 use Rattle.store.specs.Store.{Store}
-use Rattle.store.specs.Entries.{takeChecks, takeDone, takeBytes, serveChecks, serveDone, serveBytes, giveChecks, giveDone, giveBytes, workChecks, workDone, workBytes, ownerChecks, ownerDone, ownerEntry, lockBytes, unlockBytes, setVisibleBytes, sampleBytes, saveChecks, saveDone, saveBytes, powerOnChecks, powerOnDone, powerOnBytes}
+use Rattle.store.specs.Entries.{takeDone, takeEntry, takeBytes, serveChecks, serveDone, serveBytes, giveDone, giveEntry, giveBytes, workChecks, workDone, workBytes, ownerChecks, ownerDone, ownerEntry, lockBytes, unlockBytes, setVisibleBytes, sampleBytes, saveChecks, saveDone, saveBytes, powerOnChecks, powerOnDone, powerOnBytes}
 use Rattle.store.specs.OnStore.{store, ownerBytes, onStore}
 
 -- the checks of an entry
 abbrev pub storeChecks : Step → Store → List Check
-storeChecks (take p m) s = takeChecks (s .recordArea) p m (s .privateArea)
+storeChecks (take p m) s = takeEntry (s .recordArea) p m (s .privateArea) .checks
 storeChecks (serve x) s = serveChecks (s .recordArea) (x .port) (s .privateArea) (s .disk .sectors)
-storeChecks (give p m) s = giveChecks (s .recordArea) p m (s .privateArea)
+storeChecks (give p m) s = giveEntry (s .recordArea) p m (s .privateArea) .checks
 storeChecks (work n) s = workChecks (s .recordArea) (s .privateArea) (s .disk .sectors)
 storeChecks (owner x) s = ownerChecks x (s .recordArea)
 storeChecks (save image used) s = saveChecks (s .recordArea) image used
@@ -44,7 +44,7 @@ doneSeen (save image used) s = let o = saveDone (s .recordArea) image used in an
 doneSeen (powerOn image used) s = answeredImage done image used
 
 -- each of the four is the entry of its step
-owner-is : (x : OwnerStep) (r : List ℕ) → ownerBytes x r ≡ ownerEntry x r
+owner-is : (x : OwnerStep) (r : List ℕ) → ownerBytes x r ≡ attempt (ownerEntry x r)
 unfolding lockBytes unlockBytes setVisibleBytes sampleBytes
 owner-is lock r = refl
 owner-is unlock r = refl

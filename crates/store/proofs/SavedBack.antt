@@ -6,7 +6,7 @@ use mathlib.Core.List.{List}
 use lib.ListN.{length}
 use borrow.Author.Tests.{eq-eqb}
 use Rattle.wire.specs.Choice.{firstFailed}
-use Rattle.wire.proofs.ChoiceLaws.{all-pass, pass-all}
+use Rattle.wire.proofs.ChoiceLaws.{attempt-done, all-pass, pass-all}
 use Rattle.model.specs.Sizes.{sectorSize, entrySize}
 use Rattle.model.specs.Device.{Device}
 use Rattle.model.specs.Image.{savedFrom, savedImage, restored}
@@ -18,7 +18,7 @@ use Rattle.model.proofs.SaveLaws.{saved-fits, saved-ranged, power-on-after-save
 use Rattle.store.specs.Areas.{recordSize, privateSize}
 use Rattle.store.specs.Record.{Contents, encode, decode}
 use Rattle.store.specs.Store.{Store}
-use Rattle.store.specs.Entries.{powerOnChecks, restoredContents, poweredContents, powerOnBytes}
+use Rattle.store.specs.Entries.{powerOnChecks, restoredContents, poweredContents, powerOnEntry, powerOnBytes}
 use Rattle.store.specs.OnStore.{onStore}
 use Rattle.store.proofs.RecordLaws.{ContentsValid, valid-fits, decode-encode}
 use Rattle.store.proofs.ExitLaws.{storeChecks, on-done}
@@ -65,7 +65,7 @@ module _ (s : Store) (v : StoreValid s) (image : List ℕ) (used : ℕ) (saves :
 
     record-back : powerOnBytes r a disk (saved .image) (saved .used) .recordArea ≡ encode (restoredContents (savedFrom device))
     unfolding powerOnBytes
-    record-back = rw on-passed (ap encode (contents-back disk same))
+    record-back = rw (attempt-done (powerOnEntry r a disk (saved .image) (saved .used)) 0 (sym on-passed) refl) (ap encode (contents-back disk same))
 
     -- .. and "A saved image read back gives what was saved, as the power-on rules keep it".
     pub saved-read-back : KeptRules (savedFrom device) (decode (powerOnBytes r a disk (saved .image) (saved .used) .recordArea) .device)

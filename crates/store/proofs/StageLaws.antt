@@ -1,5 +1,6 @@
 -- A slot's stage stored into a record gives the record with that stage, and no other byte changes.
 use mathlib.Core.Path.{_≡_, refl, sym, ap, _∙_}
+use mathlib.Core.Bool.{true}
 use mathlib.Core.List.{List, [], _∷_, _++_}
 use Prim.Native.Nat.{ℕ, zero, suc, _+_, _*_, _≤_, _<_}
 use native.Mathlib.Omega.{arith}
@@ -14,8 +15,10 @@ use Rattle.model.specs.Device.{Device}
 use Rattle.model.specs.Temperature.{tableBytes}
 use Rattle.store.specs.Areas.{headSize}
 use Rattle.store.specs.Record.{Stage, empty, Contents, stageNumber, slotAt, headFields, encode, decode, stageAt}
+use Rattle.store.specs.Sound.{sound}
 use Rattle.store.specs.Entries.{withStage}
 use Rattle.store.proofs.RecordLaws.{four-back}
+use Rattle.store.proofs.SoundLaws.{sound-parts}
 
 -- the contents with four stages
 abbrev four : Device → Stage → Stage → Stage → Stage → Contents
@@ -53,6 +56,12 @@ stage-stored c p s size h =
     (ap (λ (x : Contents). put 1 (form headSize (headFields x)) (slotAt p) (stageNumber s)) (sym same)
     ∙ half-set d (getD ss 0 empty) (getD ss 1 empty) (getD ss 2 empty) (getD ss 3 empty) s p h
     ∙ ap (λ (x : Contents). form headSize (headFields (withStage p s x))) same)
+
+-- .. and in a sound record
+pub sound-stage : (r : List ℕ) (p : ℕ) (s : Stage) → sound r ≡ true → p < 4 → put 1 r (slotAt p) (stageNumber s) ≡ encode (withStage p s (decode r))
+unfolding decode
+sound-stage r p s e h =
+    ap (λ (l : List ℕ). put 1 l (slotAt p) (stageNumber s)) (sym (sound-parts r e .again)) ∙ stage-stored (decode r) p s refl h
 
 -- the stage of slot p in a record
 pub stage-read : (r : List ℕ) (p : ℕ) → p < 4 → getD (decode r .stages) p empty ≡ stageAt r p

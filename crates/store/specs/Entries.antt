@@ -6,7 +6,7 @@ use mathlib.Core.List.{List, [], _∷_}
 use lib.ListN.{length, set, replicate}
 use lib.Seq.{sets}
 use lib.Dec.{eqb, ltb}
-use Rattle.wire.specs.Choice.{Check, firstFailed, ifPassed}
+use Rattle.wire.specs.Choice.{Check, Guarded, attempt}
 use Rattle.wire.specs.Parts.{zeros}
 use Rattle.model.specs.Sizes.{sectorSize, portCount, mailboxSize, entrySize, done, badPort, badLength, badStage, badRecord, badValue}
 use Rattle.model.specs.Device.{Device}
@@ -63,18 +63,21 @@ pub record TakeAfter : Type 0 where
   pub recordArea : Record
   pub privateArea : Area
 
-abbrev pub takeChecks : Record → ℕ → Mailbox → Area → List Check
-takeChecks r p m a = mailboxChecks empty r p m a
-
 -- "copies the mailbox into the port's slot. Slot goes from empty to held."
 abbrev pub takeDone : Record → ℕ → Mailbox → Area → TakeAfter
 takeDone r p m a =
     record { answer = done; recordArea = encode (withStage p held (decode r)); privateArea = sets a (slotPlace p) m }
 
+abbrev pub takeEntry : Record → ℕ → Mailbox → Area → Guarded TakeAfter
+takeEntry r p m a =
+    record {
+      checks = mailboxChecks empty r p m a;
+      done = takeDone r p m a;
+      refused = λ n. record { answer = n; recordArea = r; privateArea = a };
+    }
+
 unfoldable pub takeBytes : Record → ℕ → Mailbox → Area → TakeAfter
-takeBytes r p m a =
-    let n = firstFailed (takeChecks r p m a) in
-    ifPassed n (takeDone r p m a) (record { answer = n; recordArea = r; privateArea = a })
+takeBytes r p m a = attempt (takeEntry r p m a)
 
 -- ---- serve: record, port, private area, disk
 
@@ -107,10 +110,16 @@ performed p k c a disk =
 abbrev pub serveDone : Record → ℕ → Area → Sectors → ServeAfter
 serveDone r p a disk = let c = decode r in performed p (decide (record { port = p }) (slotBytes p a) (c .device)) c a disk
 
+abbrev pub serveEntry : Record → ℕ → Area → Sectors → Guarded ServeAfter
+serveEntry r p a disk =
+    record {
+      checks = serveChecks r p a disk;
+      done = serveDone r p a disk;
+      refused = λ n. record { answer = n; recordArea = r; privateArea = a; disk = disk };
+    }
+
 unfoldable pub serveBytes : Record → ℕ → Area → Sectors → ServeAfter
-serveBytes r p a disk =
-    let n = firstFailed (serveChecks r p a disk) in
-    ifPassed n (serveDone r p a disk) (record { answer = n; recordArea = r; privateArea = a; disk = disk })
+serveBytes r p a disk = attempt (serveEntry r p a disk)
 
 -- ---- give: record, port, mailbox, private area
 
@@ -119,17 +128,20 @@ pub record GiveAfter : Type 0 where
   pub recordArea : Record
   pub mailbox : Mailbox
 
-abbrev pub giveChecks : Record → ℕ → Mailbox → Area → List Check
-giveChecks r p m a = mailboxChecks answered r p m a
-
 -- "writes all 528 reply bytes to the mailbox. Answered to empty; the slot's bytes stay."
 abbrev pub giveDone : Record → ℕ → Area → GiveAfter
 giveDone r p a = record { answer = done; recordArea = encode (withStage p empty (decode r)); mailbox = slotBytes p a }
 
+abbrev pub giveEntry : Record → ℕ → Mailbox → Area → Guarded GiveAfter
+giveEntry r p m a =
+    record {
+      checks = mailboxChecks answered r p m a;
+      done = giveDone r p a;
+      refused = λ n. record { answer = n; recordArea = r; mailbox = m };
+    }
+
 unfoldable pub giveBytes : Record → ℕ → Mailbox → Area → GiveAfter
-giveBytes r p m a =
-    let n = firstFailed (giveChecks r p m a) in
-    ifPassed n (giveDone r p a) (record { answer = n; recordArea = r; mailbox = m })
+giveBytes r p m a = attempt (giveEntry r p m a)
 
 -- ---- work: record, private area, disk, n
 
@@ -154,10 +166,16 @@ workDone r a disk n =
       disk = v .disk .sectors;
     }
 
+abbrev pub workEntry : Record → Area → Sectors → ℕ → Guarded WorkAfter
+workEntry r a disk n =
+    record {
+      checks = workChecks r a disk;
+      done = workDone r a disk n;
+      refused = λ refusal. record { answer = refusal; count = 0; recordArea = r; disk = disk };
+    }
+
 unfoldable pub workBytes : Record → Area → Sectors → ℕ → WorkAfter
-workBytes r a disk n =
-    let refusal = firstFailed (workChecks r a disk) in
-    ifPassed refusal (workDone r a disk n) (record { answer = refusal; count = 0; recordArea = r; disk = disk })
+workBytes r a disk n = attempt (workEntry r a disk n)
 
 -- ---- the owner steps lock, unlock, set V, sample: record
 
@@ -169,31 +187,28 @@ pub record OwnerAfter : Type 0 where
 abbrev pub ownerDone : (Device → Device) → Record → OwnerAfter
 ownerDone f r = let c = decode r in record { answer = done; recordArea = encode (withDevice (f (c .device)) c) }
 
-abbrev pub ownerBytes : List Check → (Device → Device) → Record → OwnerAfter
-ownerBytes cs f r = let n = firstFailed cs in ifPassed n (ownerDone f r) (record { answer = n; recordArea = r })
+abbrev pub deviceEntry : List Check → (Device → Device) → Record → Guarded OwnerAfter
+deviceEntry cs f r = record { checks = cs; done = ownerDone f r; refused = λ n. record { answer = n; recordArea = r } }
 
 -- "V asked is 0 or above N"
 abbrev pub ownerChecks : OwnerStep → Record → List Check
 ownerChecks x r = soundRecord r ∷ (goodValue x (decode r .device), badValue) ∷ []
 
 -- the owner step x
-abbrev pub ownerEntry : OwnerStep → Record → OwnerAfter
-ownerEntry x r = ownerBytes (ownerChecks x r) (ownerRule x) r
+abbrev pub ownerEntry : OwnerStep → Record → Guarded OwnerAfter
+ownerEntry x r = deviceEntry (ownerChecks x r) (ownerRule x) r
 
 unfoldable pub lockBytes : Record → OwnerAfter
-lockBytes r = ownerEntry lock r
+lockBytes r = attempt (ownerEntry lock r)
 
 unfoldable pub unlockBytes : Record → OwnerAfter
-unlockBytes r = ownerEntry unlock r
-
-abbrev pub visibleChecks : Record → ℕ → List Check
-visibleChecks r v = ownerChecks (setVisible v) r
+unlockBytes r = attempt (ownerEntry unlock r)
 
 unfoldable pub setVisibleBytes : Record → ℕ → OwnerAfter
-setVisibleBytes r v = ownerEntry (setVisible v) r
+setVisibleBytes r v = attempt (ownerEntry (setVisible v) r)
 
 unfoldable pub sampleBytes : Record → ℕ → OwnerAfter
-sampleBytes r reading = ownerEntry (sample reading) r
+sampleBytes r reading = attempt (ownerEntry (sample reading) r)
 
 -- ---- save: record, image, used length
 
@@ -209,10 +224,16 @@ saveChecks r image used = soundRecord r ∷ savingChecks (decode r .device .nati
 abbrev pub saveDone : Record → Image → ℕ → SaveAfter
 saveDone r image used = record { answer = done; image = savedImage (decode r .device) image used; used = used + entrySize }
 
+abbrev pub saveEntry : Record → Image → ℕ → Guarded SaveAfter
+saveEntry r image used =
+    record {
+      checks = saveChecks r image used;
+      done = saveDone r image used;
+      refused = λ n. record { answer = n; image = image; used = used };
+    }
+
 unfoldable pub saveBytes : Record → Image → ℕ → SaveAfter
-saveBytes r image used =
-    let n = firstFailed (saveChecks r image used) in
-    ifPassed n (saveDone r image used) (record { answer = n; image = image; used = used })
+saveBytes r image used = attempt (saveEntry r image used)
 
 -- ---- power-on: record, private area, disk, image, used length
 
@@ -237,7 +258,13 @@ abbrev pub powerOnDone : Sectors → Image → ℕ → PowerOnAfter
 powerOnDone disk image used =
     record { answer = done; recordArea = encode (poweredContents disk image used); privateArea = zeros privateSize }
 
+abbrev pub powerOnEntry : Record → Area → Sectors → Image → ℕ → Guarded PowerOnAfter
+powerOnEntry r a disk image used =
+    record {
+      checks = powerOnChecks r a disk image used;
+      done = powerOnDone disk image used;
+      refused = λ n. record { answer = n; recordArea = r; privateArea = a };
+    }
+
 unfoldable pub powerOnBytes : Record → Area → Sectors → Image → ℕ → PowerOnAfter
-powerOnBytes r a disk image used =
-    let n = firstFailed (powerOnChecks r a disk image used) in
-    ifPassed n (powerOnDone disk image used) (record { answer = n; recordArea = r; privateArea = a })
+powerOnBytes r a disk image used = attempt (powerOnEntry r a disk image used)

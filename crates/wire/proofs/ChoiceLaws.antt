@@ -7,7 +7,7 @@ use native.Mathlib.Decide.{decLt}
 use mathlib.Core.List.{List, [], _∷_, _++_}
 use borrow.Author.Tests.{not-true, not-false, leb-true, le-leb}
 use lib.Dec.{leb}
-use Rattle.wire.specs.Choice.{if_then_else_, bit, between, Check, firstFailed, ifPassed}
+use Rattle.wire.specs.Choice.{if_then_else_, bit, between, Check, firstFailed, ifPassed, Guarded, attempt}
 
 pub and-left : (a b : Bool) → (a && b) ≡ true → a ≡ true
 and-left true b h = refl
@@ -59,17 +59,28 @@ abbrev pub Numbered : ℕ → List Check → Type 0
 Numbered bound [] = Unit {0}
 Numbered bound (c ∷ cs) = (0 < c .1) × (c .1 ≤ bound) × Numbered bound cs
 
--- what is chosen by a number: b if a check failed ..
+-- what is chosen by a number: b if a check failed
 pub passed-not : {A : Type 0} (n : ℕ) (a b : A) → (n ≡ 0 → ⊥) → ifPassed n a b ≡ b
 passed-not zero a b some = absurd (some refl)
 passed-not (suc n) a b some = refl
 
--- .. the refusal with that number, and a if none failed
-pub chosen-refusal : {A : Type 0} (n m : ℕ) (a : A) (refusal : ℕ → A) → n ≡ m → (n ≡ 0 → ⊥) → ifPassed m a (refusal m) ≡ refusal n
-chosen-refusal n m a refusal e some = ap (λ (k : ℕ). ifPassed k a (refusal k)) (sym e) ∙ passed-not n a (refusal n) some
+-- ---- a step, by the number of the first check that fails: refused with it, or done
 
-pub chosen-done : {A : Type 0} (n m : ℕ) (a b : A) → n ≡ m → n ≡ 0 → ifPassed m a b ≡ a
-chosen-done n m a b e z = ap (λ (k : ℕ). ifPassed k a b) (sym e ∙ z)
+module _ {A : Type 0} (g : Guarded A) where
+  module _ (n : ℕ) (e : n ≡ firstFailed (g .checks)) where
+    pub attempt-refused : (n ≡ 0 → ⊥) → attempt g ≡ g .refused n
+    attempt-refused some = ap (λ (k : ℕ). ifPassed k (g .done) (g .refused k)) (sym e) ∙ passed-not n (g .done) (g .refused n) some
+
+    pub attempt-done : n ≡ 0 → attempt g ≡ g .done
+    attempt-done z = ap (λ (k : ℕ). ifPassed k (g .done) (g .refused k)) (sym e ∙ z)
+
+  -- its answer is that number, if it is after both
+  pub attempt-answer : (answer : A → ℕ) → answer (g .done) ≡ 0 → ((n : ℕ) → answer (g .refused n) ≡ n) → answer (attempt g) ≡ firstFailed (g .checks)
+  attempt-answer answer d f = go (firstFailed (g .checks))
+    where
+      go : (n : ℕ) → answer (ifPassed n (g .done) (g .refused n)) ≡ n
+      go zero = d
+      go (suc n) = f (suc n)
 
 -- if the number is 0, every test holds
 pub all-pass : (bound : ℕ) (cs : List Check) → Numbered bound cs → firstFailed cs ≡ 0 → AllPass cs

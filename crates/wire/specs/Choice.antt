@@ -1,4 +1,4 @@
--- A choice by a test, and the first of several tests that fails.
+-- A choice by a test, the first of several tests that fails, and a step that such tests guard.
 use mathlib.Core.Bool.{Bool, true, false, _&&_}
 use Prim.Native.Nat.{ℕ, zero, suc}
 use mathlib.Core.List.{List, [], _∷_}
@@ -31,3 +31,12 @@ firstFailed (c ∷ cs) = if c .0 then firstFailed cs else c .1
 abbrev pub ifPassed : {A : Type 0} → ℕ → A → A → A
 ifPassed zero a b = a
 ifPassed (suc n) a b = b
+
+-- A step, of the machine or of an entry: its checks, what it leaves if all of them pass, and what a refusal by number leaves.
+pub record Guarded (A : Type 0) : Type 0 where
+  pub checks : List Check
+  pub done : A
+  pub refused : ℕ → A
+
+abbrev pub attempt : {A : Type 0} → Guarded A → A
+attempt g = let n = firstFailed (g .checks) in ifPassed n (g .done) (g .refused n)

@@ -32,7 +32,7 @@ chain-holds-claims t =
     (entry-holds-reads.Asked, entry-holds-reads.Learnt, u32-at-reads.Asked, u32-at-reads.Learnt, chain-holds-below t, chain-holds.Post)
 
 chain-holds-returns : (t : ℕ) → chain-holds-lts.Need-returns (chain-holds-claims t) (chain-holds-at t) chain-holds.Post
-chain-holds-returns t c latest e = chain-none latest _ _ _ (c .if1 .taken)
+chain-holds-returns t c newest e = chain-none newest _ _ _ (c .if1 .taken)
 
 chain-holds-mul-if2 : (t : ℕ) → chain-holds-lts.Need-mul-if2 (chain-holds-claims t) (chain-holds-at t) chain-holds.Post
 chain-holds-mul-if2 t c = search needs
@@ -41,7 +41,7 @@ chain-holds-sub-if2 : (t : ℕ) → chain-holds-lts.Need-sub-if2 (chain-holds-cl
 chain-holds-sub-if2 t c = search needs
 
 chain-holds-returns-2 : (t : ℕ) → chain-holds-lts.Need-returns-2 (chain-holds-claims t) (chain-holds-at t) chain-holds.Post
-chain-holds-returns-2 t c latest e = let left = c .before .if1 .left in chain-astray latest _ _ _ (omega arith) (c .if2 .taken)
+chain-holds-returns-2 t c newest e = let left = c .before .if1 .left in chain-astray newest _ _ _ (omega arith) (c .if2 .taken)
 
 chain-holds-entry-holds-requires : (t : ℕ) → chain-holds-lts.Need-entry-holds-requires (chain-holds-claims t) (chain-holds-at t) chain-holds.Post
 chain-holds-entry-holds-requires t c κs =
@@ -50,9 +50,9 @@ chain-holds-entry-holds-requires t c κs =
     ((omega arith, p .0, c .before .if2 .left), p .1)
 
 chain-holds-returns-3 : (t : ℕ) → chain-holds-lts.Need-returns-3 (chain-holds-claims t) (chain-holds-at t) chain-holds.Post
-chain-holds-returns-3 t c latest e =
+chain-holds-returns-3 t c newest e =
     let some = c .before .before .before .before .if1 .left in
-    chain-broken latest _ _ _ (omega arith) (c .before .before .before .if2 .left) (sym (c .before .entry-holds .ensures latest e) ∙ not-true _ (c .if3 .taken))
+    chain-broken newest _ _ _ (omega arith) (c .before .before .before .if2 .left) (sym (c .before .entry-holds .ensures newest e) ∙ not-true _ (c .if3 .taken))
 
 chain-holds-add-u32-at : (t : ℕ) → chain-holds-lts.Need-add-u32-at (chain-holds-claims t) (chain-holds-at t) chain-holds.Post
 chain-holds-add-u32-at t c = omega arith
@@ -77,11 +77,11 @@ chain-holds-chain-holds-requires t c κs =
     (omega (arith, p .0), (omega (arith, p .1 .0), omega (arith, p .1 .1)))
 
 chain-holds-returns-4 : (t : ℕ) → chain-holds-lts.Need-returns-4 (chain-holds-claims t) (chain-holds-at t) chain-holds.Post
-chain-holds-returns-4 t c latest e =
+chain-holds-returns-4 t c newest e =
     let some = c .before .before .before .before .before .before .before .if1 .left in
     let place = c .before .before .before .before .before .before .if2 .left in
-    let holds = sym (c .before .before .before .before .entry-holds .ensures latest e) ∙ not-false _ (c .before .before .before .if3 .left) in
-    c .chain-holds .ensures latest e ∙ rw (c .before .u32-at .ensures) (chain-on latest _ _ _ (omega arith) place holds)
+    let holds = sym (c .before .before .before .before .entry-holds .ensures newest e) ∙ not-false _ (c .before .before .before .if3 .left) in
+    c .chain-holds .ensures newest e ∙ rw (c .before .u32-at .ensures) (chain-on newest _ _ _ (omega arith) place holds)
 
 pub +chain-holds-spec : {M : Type 1} → statement M
 +chain-holds-spec = close μ-chain-holds λ t. chain-holds-lts.spec (chain-holds-claims t)

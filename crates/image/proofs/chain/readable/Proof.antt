@@ -23,7 +23,7 @@ returns-4 c =
     let at-if1 = at-if2 .before in
     let some = at-if3 .if3 .left in
     readable-chain _ _ (at-if1 .if1 .left) (at-if2 .if2 .left) (omega arith) _
-    (λ latest e. c .chain-holds .ensures latest (e ∙ sym (at-native-at .native-at .ensures)))
+    (λ newest e. c .chain-holds .ensures newest (e ∙ sym (at-native-at .native-at .ensures)))
 
 pub readable-spec : {M : Type 1} → statement M
 readable-spec =

@@ -2,13 +2,14 @@
 use mathlib.Core.Path.{refl}
 use native.Mathlib.Omega.{arith}
 use Rattle.model.specs.Owner.{setVisible}
-use Rattle.store.specs.Entries.{setVisibleBytes}
+use Rattle.model.specs.Step.{setVisible as setVisibleStep}
 use Rattle.store.proofs.SoundLaws.{sound-parts}
 use Rattle.record.specs.DeviceMeaning.{historyOf}
 use Rattle.record_write.proofs.FramedLaws.{sound-framed}
 use Rattle.device_update.proofs.ChangeLaws.{four-slots}
-use Rattle.store.specs.Entries.{visibleChecks}
-use Rattle.owner_steps.proofs.OwnerStepLaws.{visible-passed, owner-refused, owner-done, owner-written}
+use Rattle.wire.proofs.ChoiceLaws.{attempt-refused, attempt-done}
+use Rattle.store.specs.Entries.{ownerEntry, setVisibleBytes}
+use Rattle.owner_steps.proofs.OwnerStepLaws.{visible-passed, owner-written}
 use borrow.Author.Needs.{needs}
 use Rattle.owner_steps.proofs.owner.set_visible.Statement.{statement}
 use Rattle.owner_steps.proofs.owner.set_visible.Tie as tie
@@ -18,7 +19,7 @@ unfolding setVisibleBytes
 returns c =
     let at-visible-refusal = c .before in
     let entry = at-visible-refusal .before .before .before in
-    rw (owner-refused (visibleChecks (entry .args .device .now) (entry .args .v)) (setVisible (entry .args .v)) (entry .args .device .now) (at-visible-refusal .visible-refusal .result) (at-visible-refusal .visible-refusal .ensures) (c .if1 .taken)) (refl, refl)
+    rw (attempt-refused (ownerEntry (setVisibleStep (entry .args .v)) (entry .args .device .now)) (at-visible-refusal .visible-refusal .result) (at-visible-refusal .visible-refusal .ensures) (c .if1 .taken)) (refl, refl)
 
 decode-requires : tie.Need-decode-requires
 decode-requires c κs =
@@ -49,7 +50,7 @@ returns-2 c =
     let at-if1 = at-decode .before .before in
     let at-visible-refusal = at-if1 .before in
     let entry = at-visible-refusal .before .before .before in
-    rw (owner-done (visibleChecks (entry .args .device .now) (entry .args .v)) (setVisible (entry .args .v)) (entry .args .device .now) (at-visible-refusal .visible-refusal .result) (at-visible-refusal .visible-refusal .ensures) (at-if1 .if1 .left), at-write .write .ensures .0)
+    rw (attempt-done (ownerEntry (setVisibleStep (entry .args .v)) (entry .args .device .now)) (at-visible-refusal .visible-refusal .result) (at-visible-refusal .visible-refusal .ensures) (at-if1 .if1 .left), at-write .write .ensures .0)
     (refl, owner-written (setVisible (entry .args .v)) (entry .args .device .now) (at-decode .decode .result) (at-set-visible .set-visible .result) (at-decode .decode .ensures) (at-set-visible .set-visible .ensures))
 
 pub set-visible-spec : {M : Type 1} → statement M

@@ -2,11 +2,13 @@
 use mathlib.Core.Path.{refl}
 use native.Mathlib.Omega.{arith}
 use Rattle.wire.proofs.PartsLaws.{length-part, sets-whole}
+use Rattle.wire.proofs.ChoiceLaws.{attempt-refused, attempt-done}
 use Rattle.model.specs.Sizes.{mailboxSize}
 use Rattle.store.specs.Record.{empty, answered}
 use Rattle.store.specs.Areas.{slotPlace}
+use Rattle.store.specs.Entries.{giveEntry, giveBytes}
+use Rattle.store.proofs.StageLaws.{sound-stage}
 use Rattle.refusals.proofs.CheckLaws.{MailboxPassed, mailbox-passed}
-use Rattle.sct_disk.proofs.StepExits.{sound-stage, give-refused, give-done}
 use borrow.Author.Needs.{needs}
 use Rattle.sct_disk.proofs.ports.sct_give.Statement.{statement}
 use Rattle.sct_disk.proofs.ports.sct_give.Tie as tie
@@ -18,11 +20,12 @@ passed c =
     mailbox-passed answered (a .device .now) (a .port) (a .mailbox .now) (a .area .now) (c .before .mailbox-refusal .ensures (a .mailbox .now) (a .area .now) refl refl) (c .if1 .left)
 
 returns : tie.Need-returns
+unfolding giveBytes
 returns c =
     let at-mailbox-refusal = c .before in
     let entry = at-mailbox-refusal .before .before .before .before .before in
     let a = entry .args in
-    rw (give-refused (a .device .now) (a .port) (a .mailbox .now) (a .area .now) (at-mailbox-refusal .mailbox-refusal .result) (at-mailbox-refusal .mailbox-refusal .ensures (a .mailbox .now) (a .area .now) refl refl) (c .if1 .taken)) (refl, (refl, refl))
+    rw (attempt-refused (giveEntry (a .device .now) (a .port) (a .mailbox .now) (a .area .now)) (at-mailbox-refusal .mailbox-refusal .result) (at-mailbox-refusal .mailbox-refusal .ensures (a .mailbox .now) (a .area .now) refl refl) (c .if1 .taken)) (refl, (refl, refl))
 
 copy-part-requires : tie.Need-copy-part-requires
 copy-part-requires c κs = omega (arith, passed (c .before))
@@ -32,6 +35,7 @@ put-stage-requires c κs =
     let ok = passed (c .before .before .before .before .before) in (ok .recordSized, ok .port)
 
 returns-2 : tie.Need-returns-2
+unfolding giveBytes
 returns-2 c =
     let at-put-stage = c .before .before in
     let at-copy-part = at-put-stage .before .before .before .before in
@@ -40,7 +44,7 @@ returns-2 c =
     let entry = at-mailbox-refusal .before .before .before .before .before in
     let a = entry .args in
     let ok = passed at-if1 in
-    rw (give-done (a .device .now) (a .port) (a .mailbox .now) (a .area .now) (at-mailbox-refusal .mailbox-refusal .result) (at-mailbox-refusal .mailbox-refusal .ensures (a .mailbox .now) (a .area .now) refl refl) (at-if1 .if1 .left))
+    rw (attempt-done (giveEntry (a .device .now) (a .port) (a .mailbox .now) (a .area .now)) (at-mailbox-refusal .mailbox-refusal .result) (at-mailbox-refusal .mailbox-refusal .ensures (a .mailbox .now) (a .area .now) refl refl) (at-if1 .if1 .left))
     (refl, (rw (at-put-stage .put-stage .ensures) (sound-stage (a .device .now) (a .port) empty (ok .isSound) (ok .port)), rw (at-copy-part .copy-part .ensures) (sets-whole _ (a .mailbox .now) mailboxSize (length-part (a .area .now) (slotPlace (a .port)) mailboxSize (omega (arith, ok))) (ok .mailboxSized))))
 
 pub sct-give-spec : {M : Type 1} → statement M

@@ -4,9 +4,10 @@ use Prim.Native.Nat.{_<_}
 use native.Mathlib.Omega.{arith}
 use lib.ListN.{length-take}
 use Rattle.wire.specs.Bytes.{Bytes}
+use Rattle.wire.proofs.ChoiceLaws.{attempt-refused, attempt-done}
 use Rattle.model.specs.Sizes.{portCount}
+use Rattle.store.specs.Entries.{serveEntry, serveBytes}
 use Rattle.refusals.proofs.CheckLaws.{DiskPassed, serve-passed}
-use Rattle.sct_disk.proofs.StepExits.{serve-refused, serve-done}
 use Rattle.sct_disk.proofs.VisibleLaws.{VisiblePart, visible-part, serve-record, serve-area, serve-disk}
 use borrow.Author.Needs.{needs}
 use Rattle.sct_disk.proofs.ports.sct_serve.Statement.{statement}
@@ -27,11 +28,12 @@ visible-of c =
     visible-part (a .device .now) (a .area .now) (a .disk .now) (c .visible-len .result) (λ i. omega (arith, known .slice-known .given i)) (passed at-if1 .0) (c .visible-len .ensures)
 
 returns : tie.Need-returns
+unfolding serveBytes
 returns c =
     let at-serve-refusal = c .before in
     let entry = at-serve-refusal .before .before .before .before .before in
     let a = entry .args in
-    rw (serve-refused (a .device .now) (a .port) (a .area .now) (a .disk .now) (at-serve-refusal .serve-refusal .result) (at-serve-refusal .serve-refusal .ensures (a .area .now) (a .disk .now) refl refl) (c .if1 .taken)) (refl, (refl, (refl, refl)))
+    rw (attempt-refused (serveEntry (a .device .now) (a .port) (a .area .now) (a .disk .now)) (at-serve-refusal .serve-refusal .result) (at-serve-refusal .serve-refusal .ensures (a .area .now) (a .disk .now) refl refl) (c .if1 .taken)) (refl, (refl, (refl, refl)))
 
 visible-len-requires : tie.Need-visible-len-requires
 visible-len-requires c κs = passed (c .before) .0 .isSound
@@ -49,6 +51,7 @@ serve-requires c κs =
     (record { soundRecord = s .passed .isSound; size = s .passed .areaSized; port = passed (at-visible-len .before .before) .1 }, s .size)
 
 returns-2 : tie.Need-returns-2
+unfolding serveBytes
 returns-2 c =
     let at-serve = c .before .before .before .before .before .before in
     let at-visible-len = at-serve .before .before .before .before in
@@ -62,7 +65,7 @@ returns-2 c =
     let after = at-serve .serve .ensures in
     let area-bytes : Bytes (a .area .now) = λ i. omega (arith, area-known .slice-known2 .given i) in
     let port = passed at-if1 .1 in
-    rw (serve-done (a .device .now) (a .port) (a .area .now) (a .disk .now) (at-serve-refusal .serve-refusal .result) (at-serve-refusal .serve-refusal .ensures (a .area .now) (a .disk .now) refl refl) (at-if1 .if1 .left)) (
+    rw (attempt-done (serveEntry (a .device .now) (a .port) (a .area .now) (a .disk .now)) (at-serve-refusal .serve-refusal .result) (at-serve-refusal .serve-refusal .ensures (a .area .now) (a .disk .now) refl refl) (at-if1 .if1 .left)) (
       refl,
       (
         serve-record (a .device .now) (a .port) (a .area .now) (a .disk .now) e s area-bytes port _ (after .recordBytes),

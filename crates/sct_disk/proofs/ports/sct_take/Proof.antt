@@ -5,11 +5,13 @@ use Prim.Native.Nat.{ℕ}
 use native.Mathlib.Omega.{arith}
 use lib.Seq.{sets}
 use Rattle.wire.proofs.PartsLaws.{part-whole}
+use Rattle.wire.proofs.ChoiceLaws.{attempt-refused, attempt-done}
 use Rattle.model.specs.Sizes.{mailboxSize}
 use Rattle.store.specs.Areas.{slotPlace}
 use Rattle.store.specs.Record.{empty, held}
+use Rattle.store.specs.Entries.{takeEntry, takeBytes}
+use Rattle.store.proofs.StageLaws.{sound-stage}
 use Rattle.refusals.proofs.CheckLaws.{MailboxPassed, mailbox-passed}
-use Rattle.sct_disk.proofs.StepExits.{sound-stage, take-refused, take-done}
 use borrow.Author.Needs.{needs}
 use Rattle.sct_disk.proofs.ports.sct_take.Statement.{statement}
 use Rattle.sct_disk.proofs.ports.sct_take.Tie as tie
@@ -21,11 +23,12 @@ passed c =
     mailbox-passed empty (a .device .now) (a .port) (a .mailbox .now) (a .area .now) (c .before .mailbox-refusal .ensures (a .mailbox .now) (a .area .now) refl refl) (c .if1 .left)
 
 returns : tie.Need-returns
+unfolding takeBytes
 returns c =
     let at-mailbox-refusal = c .before in
     let entry = at-mailbox-refusal .before .before .before .before .before in
     let a = entry .args in
-    rw (take-refused (a .device .now) (a .port) (a .mailbox .now) (a .area .now) (at-mailbox-refusal .mailbox-refusal .result) (at-mailbox-refusal .mailbox-refusal .ensures (a .mailbox .now) (a .area .now) refl refl) (c .if1 .taken)) (refl, (refl, refl))
+    rw (attempt-refused (takeEntry (a .device .now) (a .port) (a .mailbox .now) (a .area .now)) (at-mailbox-refusal .mailbox-refusal .result) (at-mailbox-refusal .mailbox-refusal .ensures (a .mailbox .now) (a .area .now) refl refl) (c .if1 .taken)) (refl, (refl, refl))
 
 copy-part-requires : tie.Need-copy-part-requires
 copy-part-requires c κs = omega (arith, passed (c .before))
@@ -35,6 +38,7 @@ put-stage-requires c κs =
     let ok = passed (c .before .before .before .before .before) in (ok .recordSized, ok .port)
 
 returns-2 : tie.Need-returns-2
+unfolding takeBytes
 returns-2 c =
     let at-put-stage = c .before .before in
     let at-copy-part = at-put-stage .before .before .before .before in
@@ -43,7 +47,7 @@ returns-2 c =
     let entry = at-mailbox-refusal .before .before .before .before .before in
     let a = entry .args in
     let ok = passed at-if1 in
-    rw (take-done (a .device .now) (a .port) (a .mailbox .now) (a .area .now) (at-mailbox-refusal .mailbox-refusal .result) (at-mailbox-refusal .mailbox-refusal .ensures (a .mailbox .now) (a .area .now) refl refl) (at-if1 .if1 .left))
+    rw (attempt-done (takeEntry (a .device .now) (a .port) (a .mailbox .now) (a .area .now)) (at-mailbox-refusal .mailbox-refusal .result) (at-mailbox-refusal .mailbox-refusal .ensures (a .mailbox .now) (a .area .now) refl refl) (at-if1 .if1 .left))
     (refl, (rw (at-put-stage .put-stage .ensures) (sound-stage (a .device .now) (a .port) held (ok .isSound) (ok .port)), rw (at-copy-part .copy-part .ensures) (ap (λ (l : List ℕ). sets (a .area .now) (slotPlace (a .port)) l) (part-whole (a .mailbox .now) mailboxSize (ok .mailboxSized)))))
 
 pub sct-take-spec : {M : Type 1} → statement M

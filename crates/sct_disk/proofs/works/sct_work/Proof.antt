@@ -2,8 +2,9 @@
 use mathlib.Core.Path.{refl, ap, _∙_}
 use native.Mathlib.Omega.{arith}
 use lib.ListN.{length-take}
+use Rattle.wire.proofs.ChoiceLaws.{attempt-refused, attempt-done}
+use Rattle.store.specs.Entries.{workEntry, workBytes}
 use Rattle.refusals.proofs.CheckLaws.{DiskPassed, work-passed}
-use Rattle.sct_disk.proofs.StepExits.{work-refused, work-done}
 use Rattle.sct_disk.proofs.VisibleLaws.{VisiblePart, visible-part, work-record, work-disk}
 use Rattle.sct_disk.specs.Result.{workResult}
 use borrow.Author.Needs.{needs}
@@ -25,12 +26,13 @@ visible-of c =
     visible-part (a .device .now) (a .area .now) (a .disk .now) (c .visible-len .result) (λ i. omega (arith, known .slice-known .given i)) (passed at-if1) (c .visible-len .ensures)
 
 returns : tie.Need-returns
+unfolding workBytes
 returns c =
     let at-if1 = c .before in
     let at-work-refusal = at-if1 .before in
     let entry = at-work-refusal .before .before .before .before .before in
     let a = entry .args in
-    rw (work-refused (a .device .now) (a .area .now) (a .disk .now) (a .n) (at-work-refusal .work-refusal .result) (at-work-refusal .work-refusal .ensures (a .area .now) (a .disk .now) refl refl) (at-if1 .if1 .taken)) (c .result-of .ensures, (refl, refl))
+    rw (attempt-refused (workEntry (a .device .now) (a .area .now) (a .disk .now) (a .n)) (at-work-refusal .work-refusal .result) (at-work-refusal .work-refusal .ensures (a .area .now) (a .disk .now) refl refl) (at-if1 .if1 .taken)) (c .result-of .ensures, (refl, refl))
 
 visible-len-requires : tie.Need-visible-len-requires
 visible-len-requires c κs = passed (c .before) .isSound
@@ -45,6 +47,7 @@ work-requires : tie.Need-work-requires
 work-requires c κs = let s = visible-of (c .before .before) in (s .passed .isSound, s .passed .areaSized, s .size)
 
 returns-2 : tie.Need-returns-2
+unfolding workBytes
 returns-2 c =
     let at-work = c .before .before .before .before .before in
     let at-visible-len = at-work .before .before .before in
@@ -54,7 +57,7 @@ returns-2 c =
     let a = entry .args in
     let e = at-visible-len .visible-len .result in
     let s = visible-of at-visible-len in
-    rw (work-done (a .device .now) (a .area .now) (a .disk .now) (a .n) (at-work-refusal .work-refusal .result) (at-work-refusal .work-refusal .ensures (a .area .now) (a .disk .now) refl refl) (at-if1 .if1 .left)) (
+    rw (attempt-done (workEntry (a .device .now) (a .area .now) (a .disk .now) (a .n)) (at-work-refusal .work-refusal .result) (at-work-refusal .work-refusal .ensures (a .area .now) (a .disk .now) refl refl) (at-if1 .if1 .left)) (
       c .result-of2 .ensures ∙ ap (workResult 0) (at-work .work .ensures .0),
       (
         work-record (a .device .now) (a .area .now) (a .disk .now) e (a .n) s _ (at-work .work .ensures .1 .0),

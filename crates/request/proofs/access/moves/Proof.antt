@@ -1,0 +1,23 @@
+-- `request::access::moves` meets its contract.
+use borrow.Author.Needs.{needs}
+use Rattle.request.proofs.access.moves.Statement.{statement}
+use Rattle.request.proofs.access.moves.Tie as tie
+
+returns : tie.Need-returns
+returns c = rw (c .enum-told .given .1)
+
+returns-2 : tie.Need-returns-2
+returns-2 c = rw (c .before .before .enum-told2 .given .1, c .enum-told3 .given .1)
+
+returns-3 : tie.Need-returns-3
+returns-3 c = rw (c .before .before .enum-told2 .given .1, c .enum-told4 .given .1)
+
+returns-4 : tie.Need-returns-4
+returns-4 c = rw (c .before .before .enum-told5 .given .1, c .enum-told6 .given .1)
+
+returns-5 : tie.Need-returns-5
+returns-5 c = rw (c .before .before .enum-told5 .given .1, c .enum-told7 .given .1)
+
+pub moves-spec : {M : Type 1} → statement M
+moves-spec =
+    tie.close (tie.spec (λ c. search needs) (λ c. search needs) (λ c. search needs) (λ c. search needs) (λ c. search needs) (λ c. search needs) (λ c. search needs) returns returns-2 returns-3 returns-4 returns-5)
