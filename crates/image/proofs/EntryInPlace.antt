@@ -24,7 +24,8 @@ use Rattle.model.specs.Sizes.{sectorSize, historySize, bodySize, trailerSize, e
 use Rattle.model.specs.Temperature.{tableIntervalPlace, tableIndexPlace, tableHeadSize, tableBytes}
 use Rattle.model.specs.Image.{Saved, nativePlace, visiblePlace, flagPlace, lifePlace, cachePlace, reorderingPlace, intervalPlace, optionsPlace, zerosPlace, headSize, headFields, bodyBytes, hasBit, savedAt, inRange, bodyHolds, tag, trailerPlace, previousPlace, linkPlace, numberPlace, tagPlace, trailerFields, trailerBytes, alike, entryHolds}
 use Rattle.model.proofs.FormatLaws.{table-at}
-use Rattle.model.proofs.EntryLaws.{SavedFits, saved-at, read-fits}
+use Rattle.model.specs.ImageForm.{SavedFits}
+use Rattle.model.proofs.EntryLaws.{saved-at, read-fits}
 use Rattle.model.proofs.EntryFormat.{BodyAt, body-at, get-trailer, trailer-fields}
 use Rattle.store.specs.RecordTests.{tableFixed}
 use Rattle.store.proofs.TableInPlace.{implied, table-is, table-fixed}
@@ -278,7 +279,7 @@ module _ (image : List ℕ) (at k : ℕ) (b : Bytes image) (fits : at + trailerS
   is-trailer : here ≡ trailerBytes k → TrailerTests
   unfolding trailerBytes
   is-trailer e =
-      let r = trailer-fields k high in
+      let r = trailer-fields k (omega arith) in
       let number : (i : ℕ) → i + 4 ≤ tagPlace → get 4 image (at + i) ≡ get 4 (form tagPlace (trailerFields k)) i =
       λ i h. sym (get-part 4 image at trailerSize i (omega arith)) ∙ ap (λ (l : List ℕ). get 4 l i) e ∙ get-trailer k i h in
       record {

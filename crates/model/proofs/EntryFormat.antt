@@ -15,11 +15,12 @@ use Rattle.wire.proofs.ChoiceLaws.{below, below-all}
 use Rattle.wire.proofs.NumbersLaws.{get-append-left}
 use Rattle.wire.proofs.PartsLaws.{part-append-right}
 use Rattle.wire.proofs.LayoutLaws.{length-form, reads-form, form-outside}
-use Rattle.model.specs.Sizes.{sectorSize, entryLimit}
+use Rattle.model.specs.Sizes.{sectorSize}
 use Rattle.model.specs.Device.{Device}
 use Rattle.model.specs.Temperature.{tableBytes}
 use Rattle.model.specs.Image.{Saved, savedFrom, zerosPlace, headSize, headFields, bodyBytes, tag, trailerPlace, noTrailer, linkPlace, numberPlace, tagPlace, trailerFields, trailerBytes}
-use Rattle.model.proofs.EntryLaws.{SavedFits, length-table, length-body, length-trailer, head-reads}
+use Rattle.model.specs.ImageForm.{SavedFits}
+use Rattle.model.proofs.EntryLaws.{length-table, length-body, length-trailer, head-reads}
 
 -- ---- what a device saves
 
@@ -109,7 +110,7 @@ pub get-trailer : (k at : ℕ) → at + 4 ≤ tagPlace → get 4 (trailerBytes k
 unfolding trailerBytes
 get-trailer k at h = get-append-left 4 (form tagPlace (trailerFields k)) tag at (rw (length-form tagPlace (trailerFields k)) h)
 
-pub trailer-fields : (k : ℕ) → k ≤ entryLimit → Reads (trailerFields k) (form tagPlace (trailerFields k))
+pub trailer-fields : (k : ℕ) → k ≤ 117 → Reads (trailerFields k) (form tagPlace (trailerFields k))
 trailer-fields k h = reads-form tagPlace (trailerFields k) refl (omega arith, (below (eqb k 1), (omega arith, tt)))
   where
     below : (b : Bool) → (if b then noTrailer else trailerPlace (k - 1)) < 256 ^ 4

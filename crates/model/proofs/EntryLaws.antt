@@ -22,6 +22,7 @@ use Rattle.model.specs.Key.{statesNamed}
 use Rattle.model.proofs.StateLaws.{states-ranges, ranges-states}
 use Rattle.model.specs.Temperature.{tableIndexPlace, tableHeadSize, tableFields, tableBytes}
 use Rattle.model.specs.Image.{Saved, nativePlace, visiblePlace, flagPlace, lifePlace, cachePlace, reorderingPlace, intervalPlace, optionsPlace, headSize, headFields, bodyBytes, hasBit, savedAt, inRange, bodyHolds, tag, tagPlace, trailerFields, trailerBytes, alike}
+use Rattle.model.specs.ImageForm.{SavedFits, AreAlike}
 use Rattle.model.specs.Valid.{StateValid}
 use Rattle.model.proofs.FormatLaws.{table-reads, table-bytes}
 
@@ -42,18 +43,6 @@ unfolding trailerBytes
 length-trailer k = length-append (form tagPlace (trailerFields k)) tag ∙ rw (length-form tagPlace (trailerFields k))
 
 -- ---- what is saved is read back
-
--- The values fit their places in a body.
-pub record SavedFits (s : Saved) : Type 0 where
-  pub native : s .native < 256 ^ 8
-  pub visible : s .visible < 256 ^ 8
-  pub lifeMaximum : s .lifeMaximum < 256
-  pub writeCache : s .writeCache .state < 256 ^ 2
-  pub reordering : s .reordering .state < 256 ^ 2
-  pub logInterval : s .logInterval .state < 256 ^ 2
-  pub index : s .index < 256 ^ 2
-  pub whole : length (s .history) ≡ historySize
-  pub readings : Bytes (s .history)
 
 -- every field of the head is read back from the body
 pub head-reads : (s : Saved) → SavedFits s → Reads (headFields s) (bodyBytes s)
@@ -237,9 +226,6 @@ range-fits s r m w b =
 -- ---- "all entries have the same N"
 
 -- what the test `alike` states about two entries
-pub record AreAlike (a b : Saved) : Type 0 where
-  pub sameNative : b .native ≡ a .native
-
 pub alike-parts : (a b : Saved) → alike a b ≡ true → AreAlike a b
 unfolding alike
 alike-parts a b e = record { sameNative = eqb-true (b .native) (a .native) e }

@@ -22,8 +22,7 @@ use Rattle.model.specs.Step.{Step, take, serve, give, work, owner, save,
 use Rattle.model.specs.Valid.{FillValid, SectorValid, MachineValid}
 use Rattle.model.proofs.StepLaws.{step-done, step-refused, answers-numbered}
 use Rattle.model.proofs.WorkLaws.{work-disk, work-idle}
-use Rattle.model.proofs.ValidRequest.{WritingValid, DecisionValid, decide-valid}
-use Rattle.model.proofs.ValidStep.{request-held}
+use Rattle.model.proofs.ValidRequest.{WritingValid, DecisionValid, decide-valid, request-held}
 
 -- what is written is on the visible disk
 pub span-visible : (d : Device) (w : Writing) → WritingValid d w → spanOf w .end ≤ d .visible

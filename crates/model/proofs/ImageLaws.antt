@@ -17,8 +17,9 @@ use Rattle.wire.proofs.PartsLaws.{length-part, part-part, get-part, part-append
 use Rattle.wire.proofs.BytesLaws.{bytes-part, same-refl, same-true}
 use Rattle.model.specs.Sizes.{bodySize, trailerSize, entrySize, entryLimit}
 use Rattle.model.specs.Image.{Saved, bodyBytes, savedAt, inRange, bodyHolds, trailerPlace, previousPlace, linkPlace, trailerBytes, bodyAt, trailerAt, alike, entryHolds, every, entries, newestIn, readable, chainHolds, sameDisk}
+use Rattle.model.specs.ImageForm.{SavedFits, AreAlike, EntryForm, ImageForm}
 use Rattle.model.proofs.EntryFormat.{get-trailer, trailer-fields}
-use Rattle.model.proofs.EntryLaws.{length-body, length-trailer, SavedFits, saved-back, saved-at, body-holds, read-fits, AreAlike, alike-parts, parts-alike, alike-others}
+use Rattle.model.proofs.EntryLaws.{length-body, length-trailer, saved-back, saved-at, body-holds, read-fits, alike-parts, parts-alike, alike-others}
 
 -- ---- every entry, and the chain of trailers
 
@@ -40,7 +41,7 @@ previous-place : (k : ℕ) → 1 ≤ k → previousPlace (suc k) ≡ trailerPlac
 previous-place k h = rw (ne-eqb (suc k) 1 (omega arith)) (omega arith)
 
 trailer-reads : (k : ℕ) → k ≤ entryLimit → get 4 (trailerBytes k) linkPlace ≡ previousPlace k
-trailer-reads k h = get-trailer k linkPlace (omega arith) ∙ trailer-fields k h .1 .0
+trailer-reads k h = get-trailer k linkPlace (omega arith) ∙ trailer-fields k (omega arith) .1 .0
 
 -- what the test of an entry states
 entry-held : (newest : Saved) (image : List ℕ) (k : ℕ) → entryHolds newest image k ≡ true
@@ -79,22 +80,6 @@ chain-every newest image (suc k) h =
     go true e rest = rw (previous-read newest image (suc k) h e) rest
 
 -- ---- the form of an image
-
--- "Entries of 560 bytes: 544 of body, a 16-byte trailer at the end": entry k, of values that are in range, fit, and are like the latest.
-pub record EntryForm (newest : Saved) (image : List ℕ) (k : ℕ) : Type 0 where
-  pub saved : Saved
-  pub fits : SavedFits saved
-  pub ranged : inRange saved ≡ true
-  pub like : AreAlike newest saved
-  pub bytes : part image (entrySize * (k - 1)) entrySize ≡ bodyBytes saved ++ trailerBytes k
-
--- "The used length is a multiple of 560, at most 65,520; all entries have the same N."
-pub record ImageForm (image : List ℕ) (used : ℕ) : Type 0 where
-  pub newest : Saved
-  pub number : ℕ
-  pub usedLength : used ≡ entrySize * number
-  pub most : number ≤ entryLimit
-  pub each : (k : ℕ) → 1 ≤ k → k ≤ number → EntryForm newest image k
 
 -- the places of a body and of a trailer, from the entry's first byte
 body-place : (k : ℕ) → 1 ≤ k → trailerPlace k - bodySize ≡ entrySize * (k - 1)
@@ -203,6 +188,15 @@ readable-form image used b h =
       each = λ k low high. holds-form (newestIn image used) image k low b (r .each k low high);
     }
 
+-- the newest entry of an image of the form is like its entries
+pub newest-like : (image : List ℕ) (used : ℕ) (f : ImageForm image used) → 1 ≤ f .number → AreAlike (f .newest) (newestIn image used)
+newest-like image used f h =
+    let number : entries used ≡ f .number = omega (arith, f .usedLength) in
+    let e = f .each (f .number) h (omega arith) in
+    subst (AreAlike (f .newest))
+    (sym (ap (λ (n : ℕ). savedAt (bodyAt image n) 0) number ∙ form-saved (f .newest) image (f .number) h e))
+    (e .like)
+
 pub form-readable : (image : List ℕ) (used : ℕ) → ImageForm image used → readable image used ≡ true
 form-readable image used f =
     parts-readable image used
@@ -212,20 +206,13 @@ form-readable image used f =
       most = omega (arith, f .usedLength, f .most);
       each =
           λ k low high.
-          sym (holds-alike (f .newest) (newestIn image used) image k (like (omega (arith, number))))
+          sym (holds-alike (f .newest) (newestIn image used) image k (newest-like image used f (omega (arith, number))))
           ∙ form-holds (f .newest) image k low (f .each k low (rw number at high));
     }
     )
   where
     number : entries used ≡ f .number
     number = omega (arith, f .usedLength)
-
-    like : 1 ≤ f .number → AreAlike (f .newest) (newestIn image used)
-    like h =
-        let e = f .each (f .number) h (omega arith) in
-        subst (AreAlike (f .newest))
-        (sym (ap (λ (n : ℕ). savedAt (bodyAt image n) 0) number ∙ form-saved (f .newest) image (f .number) h e))
-        (e .like)
 
 -- ---- the newest entry
 

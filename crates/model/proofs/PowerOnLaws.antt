@@ -18,7 +18,8 @@ use Rattle.model.specs.Temperature.{emptyHistory, emptyIndex}
 use Rattle.model.specs.Fill.{nothingPending}
 use Rattle.model.specs.Image.{Saved, savedAt, inRange, bodyAt, entries, newestIn, readable, blank, kept, powerOnThermal, powerOn, restored}
 use Rattle.model.specs.Valid.{TimerValid, StateValid, ThermalValid, Valid}
-use Rattle.model.proofs.EntryLaws.{SavedFits, Ranged, range-parts, parts-range, range-fits}
+use Rattle.model.specs.ImageForm.{SavedFits}
+use Rattle.model.proofs.EntryLaws.{Ranged, range-parts, parts-range, range-fits}
 use Rattle.model.proofs.ImageLaws.{form-saved, readable-form}
 
 -- ---- the device at power-on is valid

@@ -222,13 +222,6 @@ module _ (s : Serving) (M : Machine) (m : List ℕ) (port : s .port < portCount)
       → decide s m (M .device) ≡ decideSector dir count lba (dataOf m) (interrupt (M .device))
   decided-sector dir count lba e = decided (sectorAccess dir count lba) e
 
-  pub serves-read : (lba : ℕ) → requestOf m ≡ sectorAccess read 1 lba → M .device .locked ≡ false → lba < M .device .visible
-      → Serves s M (replyBytes (good 0 0) (part (M .disk .sectors) (sectorSize * lba) sectorSize)) (interrupt (M .device)) (M .disk)
-  unfolding decideSector
-  serves-read lba e unlocked low =
-      serves {c = decision (interrupt (M .device)) (good 0 0) (sending (diskSector lba))}
-      (decided-sector read 1 lba e ∙ rw (interrupt-kept (M .device), unlocked, lt-ltb lba (M .device .visible) low))
-
   -- "Locked: Error 04h, before both"; "Count (16 bits) other than 1: Error 04h. LBA at or above V: Error 10h."
   abbrev pub sectorError : ℕ → ℕ → ℕ
   sectorError count lba = firstFailed (sectorChecks (M .device) count lba)
@@ -241,6 +234,13 @@ module _ (s : Serving) (M : Machine) (m : List ℕ) (port : s .port < portCount)
 
   pub sector-range : (lba : ℕ) → M .device .locked ≡ false → M .device .visible ≤ lba → sectorError 1 lba ≡ 0x10
   sector-range lba unlocked h = rw (unlocked, le-ltb lba (M .device .visible) h)
+
+  pub serves-read : (lba : ℕ) → requestOf m ≡ sectorAccess read 1 lba → M .device .locked ≡ false → lba < M .device .visible
+      → Serves s M (replyBytes (good 0 0) (part (M .disk .sectors) (sectorSize * lba) sectorSize)) (interrupt (M .device)) (M .disk)
+  unfolding decideSector
+  serves-read lba e unlocked low =
+      serves {c = decision (interrupt (M .device)) (good 0 0) (sending (diskSector lba))}
+      (decided-sector read 1 lba e ∙ rw (interrupt-kept (M .device), unlocked, lt-ltb lba (M .device .visible) low))
 
   -- the sector is written at its place, every other byte is unchanged, and the flag is cleared
   pub serves-write : (lba : ℕ) → requestOf m ≡ sectorAccess write 1 lba → M .device .locked ≡ false → lba < M .device .visible

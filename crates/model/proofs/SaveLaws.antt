@@ -19,8 +19,9 @@ use Rattle.model.specs.Sizes.{sectorSize, nativeLimit, bodySize, trailer
 use Rattle.model.specs.Device.{Device}
 use Rattle.model.specs.Valid.{Valid}
 use Rattle.model.specs.Image.{Saved, savedFrom, bodyBytes, savedAt, inRange, trailerBytes, bodyAt, trailerPlace, entryHolds, entries, newestIn, readable, sameDisk, saveChecks, savedImage, powerOnChecks, restored}
-use Rattle.model.proofs.EntryLaws.{bytes-body, bytes-trailer, length-body, length-trailer, SavedFits, Ranged, parts-range, range-fits, AreAlike, alike-self}
-use Rattle.model.proofs.ImageLaws.{holds-alike, EntryForm, form-saved, form-holds, Readable, readable-parts, parts-readable}
+use Rattle.model.specs.ImageForm.{SavedFits, AreAlike, EntryForm}
+use Rattle.model.proofs.EntryLaws.{bytes-body, bytes-trailer, length-body, length-trailer, Ranged, parts-range, range-fits, alike-self}
+use Rattle.model.proofs.ImageLaws.{holds-alike, form-saved, form-holds, Readable, readable-parts, parts-readable}
 
 -- ---- what a valid device saves
 

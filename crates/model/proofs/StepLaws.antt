@@ -1,4 +1,4 @@
--- Laws of a step: done or refused, and the order of the refusals.
+-- Laws of a step: done or refused, and the order of the refusals; and of a list of steps.
 use mathlib.Core.Path.{_≡_, refl, sym, ap, _∙_}
 use mathlib.Core.Bool.{Bool, true, _&&_}
 use Prim.Native.Nat.{ℕ, zero, suc, _<_}
@@ -204,11 +204,3 @@ silent-seen (powerOn image used) M s = refl
 
 pub silent-untouched : (x : Step) (M : Machine) → Silent x → step x M .seen .answer ≡ 0 → Untouched x (step x M .seen)
 silent-untouched x M s e = rw (step-done x M (sym (answer-is x M) ∙ e), silent-seen x M s) (unchanged-untouched x done)
-
--- ---- a list of steps: each continues from the state that the previous one left
-
-pub trace-none : {S : Type 0} (f : Step → S → Outcome S) (s : S) → trace f [] s ≡ []
-trace-none f s = refl
-
-pub trace-two : {S : Type 0} (f : Step → S → Outcome S) (x y : Step) (s : S) → trace f (x ∷ y ∷ []) s ≡ f x s ∷ f y (f x s .state) ∷ []
-trace-two f x y s = refl

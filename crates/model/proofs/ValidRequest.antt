@@ -19,7 +19,9 @@ use Rattle.model.specs.Registers.{Direction, read, write, Request, statu
 use Rattle.model.specs.Key.{word, FeatureName, writeCache, reordering, logInterval, Action, fillPattern, fillSector, setTimer, returnTimer, setFeature, returnState, returnOption, sendTable, Verdict, accepted, rejected, keyChecks, actionOf, judgeKey}
 use Rattle.model.specs.Fill.{interrupt}
 use Rattle.model.specs.Decide.{Serving, Writing, noWrite, oneSector, newFill, Sending, noData, status, temperatures, diskSector, Effect, nothing, sending, Decision, decision, decideStatus, timer, feature, carryOut, decideVerdict, decideKey, dataChecks, transferEffect, decideData, sectorChecks, sectorEffect, decideSector, pendingFor, decideRequest, decide}
-use Rattle.model.specs.Valid.{TransferValid, PendingValid, pendingCount, pendingLimit, SettingsValid, Valid, Sized}
+use Rattle.model.specs.Machine.{Port, empty, request, reply, heldBytes}
+use Rattle.model.specs.Step.{isRequest}
+use Rattle.model.specs.Valid.{TransferValid, PendingValid, pendingCount, pendingLimit, SettingsValid, Valid, Sized, PortValid}
 use Rattle.model.proofs.KeyLaws.{key-codes, verdict-rejected, ActionValid, accepted-valid}
 use Rattle.model.proofs.FormatLaws.{RegistersFit}
 use Rattle.model.proofs.RequestLaws.{interrupt-kept}
@@ -308,3 +310,9 @@ request-valid q s m d v whole = go q
 pub decide-valid : (s : Serving) (m : List ℕ) (d : Device) → Valid d → Sized mailboxSize m → DecisionValid d (decide s m d)
 unfolding decide
 decide-valid s m d = request-valid (requestOf m) s m d
+
+-- a port in the stage that serve needs holds a request
+pub request-held : (x : Port) → isRequest x ≡ true → PortValid x → Sized mailboxSize (heldBytes x)
+request-held empty e v = absurd (let z : _≡_ {A = ℕ} 0 1 = cc in omega arith)
+request-held (request m) e v = v
+request-held (reply m) e v = absurd (let z : _≡_ {A = ℕ} 0 1 = cc in omega arith)

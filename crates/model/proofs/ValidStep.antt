@@ -36,7 +36,7 @@ use Rattle.model.proofs.PowerOnLaws.{power-on-valid, blank-fits, blank-
 use Rattle.model.proofs.OwnerLaws.{interrupt-quiet}
 use Rattle.model.proofs.RequestLaws.{interrupt-kept}
 use Rattle.model.proofs.ValidDevice.{initialized-valid, locked-valid, interrupt-command, interrupt-valid, start-valid, advanced-valid, sampled-valid}
-use Rattle.model.proofs.ValidRequest.{WritingValid, SendingValid, DecisionValid, decide-valid}
+use Rattle.model.proofs.ValidRequest.{WritingValid, SendingValid, DecisionValid, decide-valid, request-held}
 
 -- ---- effects
 
@@ -311,12 +311,6 @@ power-on-machine disk image used db ib e =
     }
 
 -- ---- any step
-
--- a port in the stage that serve needs holds a request
-pub request-held : (x : Port) → isRequest x ≡ true → PortValid x → Sized mailboxSize (heldBytes x)
-request-held empty e v = absurd (let z : _≡_ {A = ℕ} 0 1 = cc in omega arith)
-request-held (request m) e v = v
-request-held (reply m) e v = absurd (let z : _≡_ {A = ℕ} 0 1 = cc in omega arith)
 
 sector-kept : (M : Machine) → MachineValid M → SectorValid (M .device .command .fill) (whileRunning (M .device .command .fill) (M .sector))
 sector-kept M ok = running-valid (M .device .command .fill) (M .sector) (suits (M .device .command .fill) (M .sector) (ok .sectorValid))

@@ -1,13 +1,16 @@
 -- The starred examples of document 01 ("V = 64; * = proved"), as one list.
-use Prim.Native.Nat.{ℕ, _-_, _^_}
-use mathlib.Core.List.{List, [], _∷_, _++_}
+use Prim.Native.Nat.{ℕ, suc, _*_, _-_, _^_}
+use mathlib.Core.List.{List, [], _∷_, _++_, map}
+use lib.ListN.{getD}
 use Rattle.wire.specs.Layout.{Field, form}
+use Rattle.wire.specs.Parts.{zeros}
 use Rattle.model.specs.Sizes.{sectorSize, registersSize}
 use Rattle.model.specs.Device.{Fill, idle, running, Device}
 use Rattle.model.specs.Update.{withFill, withThermal}
 use Rattle.model.specs.Registers.{Registers}
 use Rattle.model.specs.Temperature.{emptyHistory}
-use Rattle.model.specs.Fill.{workCount, work}
+use Rattle.model.specs.Disk.{Disk}
+use Rattle.model.specs.Fill.{Volume, workCount, work}
 use Rattle.model.specs.Decide.{decide}
 use Rattle.model.specs.Perform.{volumeAfter}
 use Rattle.model.specs.Owner.{sample}
@@ -40,9 +43,13 @@ pub data Example : Type 0 where
   maximum : ℕ → ℕ → Example
   left : ℕ → ℕ → Example
 
--- a fresh device with so many sectors of a fill of its disk left
-abbrev pub filling : ℕ → Device
-filling count = withFill (running 0 (64 - count) 64) 0xFFFF fresh
+-- a fresh disk of zeros, whose fill has done sector 0 alone and has so many sectors left; V is no part of this example, so the disk is small
+abbrev pub filling : ℕ → Volume
+filling count =
+    record {
+      device = withFill (running 0 1 (suc count)) 0xFFFF (powerOn (blank (suc count)));
+      disk = record { sectors = zeros (sectorSize * suc count) };
+    }
 
 -- a fill's first sector, next sector and end, 0 with no fill
 abbrev pub fillNumbers : Fill → List ℕ
@@ -62,7 +69,12 @@ acceptedFill first end = 0x50 ∷ 0 ∷ 0 ∷ 0xFFFF ∷ first ∷ first ∷ end
 abbrev pub refusedKey : ℕ → List ℕ
 refusedKey code = 0x51 ∷ 0x04 ∷ code ∷ code ∷ 0 ∷ 0 ∷ 0 ∷ []
 
--- What a key leaves; both maxima after a sample; the sectors that a work step reports, the stored code and the fill after it.
+-- the first bytes of four sectors
+abbrev pub firstBytes : Disk → List ℕ
+firstBytes disk = map (λ (lba : ℕ). getD (disk .sectors) (sectorSize * lba) 0) (0 ∷ 1 ∷ 2 ∷ 3 ∷ [])
+
+-- What a key leaves; both maxima after a sample; the sectors that a work step reports, the stored code, the fill and the disk after it, where a
+-- sector is shown by its first byte.
 unfoldable pub evaluate : Example → List ℕ
 evaluate (key fields) =
     let c = decide (record { port = 0 }) (keyMailbox fields) fresh in
@@ -70,8 +82,9 @@ evaluate (key fields) =
 evaluate (maximum old reading) =
     let t = sample reading (withMaximum old) .thermal in t .cycleMaximum ∷ t .lifeMaximum ∷ []
 evaluate (left count n) =
-    let d = work n [] (record { device = filling count; disk = record { sectors = [] } }) .device in
-    workCount n (filling count .command .fill) ∷ d .command .code ∷ fillNumbers (d .command .fill)
+    let v = work n (0xA5 ∷ []) (filling count) in
+    let command = v .device .command in
+    workCount n (filling count .device .command .fill) ∷ command .code ∷ fillNumbers (command .fill) ++ firstBytes (v .disk)
 
 -- an example, and the outcome that 01 states for it
 abbrev pub starred : List (Example × List ℕ)
@@ -94,5 +107,5 @@ starred =
     -- "Maximum F6h, sample 05h: 05h."
     ∷ (maximum 0xF6 0x05, 0x05 ∷ 0x05 ∷ [])
     -- "Work 10 with 3 left: 3."
-    ∷ (left 3 10, 3 ∷ 0x0000 ∷ 0 ∷ 0 ∷ 0 ∷ [])
+    ∷ (left 3 10, 3 ∷ 0x0000 ∷ 0 ∷ 0 ∷ 0 ∷ 0 ∷ 0xA5 ∷ 0xA5 ∷ 0xA5 ∷ [])
     ∷ []

@@ -13,6 +13,7 @@ pub mod Decide
 pub mod Perform
 pub mod Owner
 pub mod Image
+pub mod ImageForm
 pub mod Machine
 pub mod Step
 pub mod Valid

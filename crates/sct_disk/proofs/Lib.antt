@@ -1,2 +1,3 @@
 -- Laws of take, serve, give and work, in reading order.
 pub mod VisibleLaws
+pub mod ResultLaws

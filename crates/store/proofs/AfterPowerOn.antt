@@ -1,8 +1,8 @@
 -- What holds for every list of steps after a power-on that answers 0, in addition to condition 3.
 use mathlib.Core.Path.{_≡_, sym, ap, _∙_}
-use Prim.Native.Nat.{ℕ}
-use mathlib.Core.List.{List, [], _∷_}
-use lib.ListN.{length}
+use Prim.Native.Nat.{ℕ, _*_, _≤_}
+use mathlib.Core.List.{List, [], _∷_, _++_}
+use lib.ListN.{length, getD}
 use Rattle.wire.specs.Bytes.{Bytes}
 use Rattle.model.specs.Device.{Device}
 use Rattle.model.specs.Disk.{Disk}
@@ -18,8 +18,8 @@ use Rattle.store.specs.Record.{decode}
 use Rattle.store.specs.Store.{Store, machineOf}
 use Rattle.store.specs.Entries.{PowerOnAfter, powerOnBytes}
 use Rattle.store.specs.OnStore.{onStore}
-use Rattle.store.specs.Condition3.{started}
-use Rattle.store.proofs.FollowLaws.{StoreValid}
+use Rattle.store.specs.Condition3.{HiddenKept, started}
+use Rattle.store.proofs.FollowLaws.{hidden-bytes, StoreValid}
 use Rattle.store.proofs.StepFollows.{follows}
 use Rattle.store.proofs.Condition3Holds.{started-valid}
 use Rattle.store.proofs.AnswerLaws.{ListAnswersRight, list-answers, storeAfter, request-kept, step-answer}
@@ -29,6 +29,13 @@ use Rattle.store.proofs.SavedBack.{power-on-saved, saved-read-back}
 pub list-valid : (xs : List Step) (s : Store) → Each Fed xs → StoreValid s → StoreValid (storeAfter xs s)
 list-valid [] s fed v = v
 list-valid (x ∷ xs) s fed v = list-valid xs (onStore x s .state) (fed .1) (follows x s (fed .0) v .valid)
+
+-- what `HiddenKept` states, byte by byte, of every step of a list
+pub hidden-every : (before : List Step) (x : Step) (after : List Step) (s : Store) → HiddenKept (before ++ (x ∷ after)) s → (i : ℕ)
+    → 512 * decode (storeAfter before s .recordArea) .device .visible ≤ i
+    → getD (onStore x (storeAfter before s) .state .disk .sectors) i 0 ≡ getD (storeAfter before s .disk .sectors) i 0
+hidden-every [] x after s kept i h = hidden-bytes s (onStore x s .state) (kept .0) i h
+hidden-every (y ∷ before) x after s kept i h = hidden-every before x after (onStore y s .state) (kept .1) i h
 
 -- a request taken from valid bytes is kept
 taken-kept : (p : ℕ) (m : List ℕ) (xs : List Step) (s : Store) → Bytes m → Each Fed xs → StoreValid s → onStore (take p m) s .seen .answer ≡ 0

@@ -9,7 +9,7 @@ use lib.ListN.{length, drop}
 use lib.Dec.{eqb, ltb, leb}
 use borrow.Author.Tests.{eqb-true, eqb-false, eq-eqb, ltb-true, lt-ltb, leb-true, leb-false, le-leb}
 use Rattle.wire.specs.Choice.{if_then_else_, Check, firstFailed}
-use Rattle.wire.proofs.ChoiceLaws.{Numbered, and-left, and-right, between-within, first-bound, attempt-answer, all-pass, pass-all}
+use Rattle.wire.proofs.ChoiceLaws.{Numbered, and-left, and-right, between-within, first-bound, attempt-refused, attempt-done, attempt-answer, all-pass, pass-all}
 use Rattle.model.specs.Sizes.{sectorSize, nativeLimit, mailboxSize}
 use Rattle.model.specs.Image.{wholeSectors, readable, sameDisk}
 use Rattle.model.specs.Machine.{Machine, request}
@@ -28,7 +28,6 @@ use Rattle.store.specs.OnStore.{onStore}
 use Rattle.store.proofs.ExitLaws.{storeChecks, doneStore, doneSeen, on-refused, on-done}
 use Rattle.store.proofs.FollowLaws.{StoreValid, machine-valid}
 use Rattle.store.proofs.StepFollows.{follows}
-use Rattle.store.proofs.Condition3Holds.{power-on-answer}
 
 -- ---- condition 1: "Every entry refuses bad input by number and returns for every input"
 
@@ -156,37 +155,6 @@ list-answers [] s fed v = tt
 list-answers (x ∷ xs) s fed v =
     (step-answers x s (fed .0) v, list-answers xs (onStore x s .state) (fed .1) (follows x s (fed .0) v .valid))
 
--- ---- power-on
-
--- THEOREM: a power-on answers 0 exactly if the paper names no refusal: record and private area have their sizes, the disk is 1 to 65,536 whole
--- sectors (512 to 33,554,432 bytes, a multiple of 512), the used length is within the buffer, the image is readable, its newest entry this disk's.
-pub power-on-exactly : (r a disk image : List ℕ) (used : ℕ)
-    → (powerOnBytes r a disk image used .answer ≡ 0)
-    ↔ ((length r ≡ recordSize) × (length a ≡ privateSize) × ((length disk % 512 ≡ 0) × (512 ≤ length disk) × (length disk ≤ 33554432)) × (used ≤ length image) × (readable image used ≡ true) × (sameDisk (length disk / sectorSize) image used ≡ true))
-power-on-exactly r a disk image used = (
-  λ e.
-      let pass = all-pass 8 (powerOnChecks r a disk image used) (omega arith) (sym (power-on-answer r a disk image used) ∙ e) in (
-        eqb-true (length r) recordSize (pass .0),
-        eqb-true (length a) privateSize (pass .1 .0),
-        whole-sectors (length disk) .0 (pass .1 .1 .0),
-        leb-true used (length image) (pass .1 .1 .1 .0),
-        pass .1 .1 .1 .1 .0,
-        pass .1 .1 .1 .1 .1 .0,
-      ),
-  λ k.
-      power-on-answer r a disk image used
-      ∙ pass-all (powerOnChecks r a disk image used)
-      (eq-eqb (length r) recordSize (k .0), (eq-eqb (length a) privateSize (k .1), (whole-sectors (length disk) .1 (k .2), (le-leb used (length image) (k .3), (k .4, (k .5, tt)))))),
-)
-
--- THEOREM: it answers 0 for every disk of 1 to 65,536 whole sectors with used length 0.
-pub power-on-fresh : (r a disk image : List ℕ) (n : ℕ) → length r ≡ recordSize → length a ≡ privateSize → length disk ≡ 512 * n → 1 ≤ n → n ≤ 65536
-    → powerOnBytes r a disk image 0 .answer ≡ 0
-power-on-fresh r a disk image n size private sectors some most =
-    let whole : wholeSectors (length disk) ≡ true = whole-sectors (length disk) .1 (omega arith, omega arith, omega arith) in
-    power-on-answer r a disk image 0
-    ∙ rw (eq-eqb (length r) recordSize size, eq-eqb (length a) privateSize private) (power-on-empty disk image 0 whole)
-
 -- ---- save
 
 save-answer : (r image : List ℕ) (used : ℕ) → saveBytes r image used .answer ≡ firstFailed (saveChecks r image used)
@@ -255,3 +223,15 @@ pub request-kept : (p : ℕ) (m : List ℕ) (xs : List Step) (s : Store) → Eac
     → AllLeave onStore p xs s → machineOf (storeAfter xs s) .ports p ≡ request m
 request-kept p m xs s fed v held leaves =
     ap (λ (M : Machine). M .ports p) (after-same xs s fed v) ∙ requests-stay p m xs (machineOf s) held (list-leaves p xs s fed v leaves)
+
+-- THEOREM: after a save that answers 0 the used length is 560 more; after a refusal it is unchanged, and so is the image.
+pub save-used : (r image : List ℕ) (used : ℕ)
+    → (saveBytes r image used .answer ≡ 0 → saveBytes r image used .used ≡ used + 560)
+    × ((saveBytes r image used .answer ≡ 0 → ⊥) → (saveBytes r image used .used ≡ used) × (saveBytes r image used .image ≡ image))
+unfolding saveBytes
+save-used r image used =
+    let entry = saveEntry r image used in
+    let number = firstFailed (saveChecks r image used) in (
+      λ e. rw (attempt-done entry number refl (sym (save-answer r image used) ∙ e)),
+      λ some. rw (attempt-refused entry number refl (λ z. some (save-answer r image used ∙ z))) (refl, refl),
+    )

@@ -6,7 +6,7 @@ use mathlib.Core.List.{List, [], _∷_, map}
 use Rattle.wire.specs.Choice.{firstFailed}
 use Rattle.wire.specs.Parts.{zeros}
 use Rattle.wire.specs.Bytes.{Bytes}
-use Rattle.wire.proofs.ChoiceLaws.{Numbered, attempt-done, attempt-answer, all-pass, pass-all}
+use Rattle.wire.proofs.ChoiceLaws.{attempt-done, all-pass, pass-all}
 use Rattle.model.specs.Image.{powerOnChecks as diskChecks}
 use Rattle.model.specs.Disk.{Disk, hiddenPart}
 use Rattle.model.specs.Machine.{Machine}
@@ -17,9 +17,10 @@ use Rattle.model.proofs.HiddenLaws.{step-hidden}
 use Rattle.store.specs.Areas.{privateSize}
 use Rattle.store.specs.Record.{encode}
 use Rattle.store.specs.Store.{Store, machineOf}
-use Rattle.store.specs.Entries.{PowerOnAfter, powerOnChecks, poweredContents, powerOnEntry, powerOnBytes}
+use Rattle.store.specs.Entries.{powerOnChecks, poweredContents, powerOnEntry, powerOnBytes}
 use Rattle.store.specs.OnStore.{store, onStore}
 use Rattle.store.specs.Condition3.{asMachine, HiddenKept, started, FollowsMachine, Condition3}
+use Rattle.store.proofs.PowerOnAnswers.{power-on-answer, no-refusal}
 use Rattle.store.proofs.FollowLaws.{StoreValid, machine-valid}
 use Rattle.store.proofs.StepFollows.{Follows, follows, powered-store}
 
@@ -46,14 +47,6 @@ list-hidden (x ∷ xs) s fed v =
 
 -- ---- the first power-on
 
-module _ (r a sectors image : List ℕ) (used : ℕ) where
-  numbered : Numbered 8 (powerOnChecks r a sectors image used)
-  numbered = omega arith
-
-  pub power-on-answer : powerOnBytes r a sectors image used .answer ≡ firstFailed (powerOnChecks r a sectors image used)
-  unfolding powerOnBytes
-  power-on-answer = attempt-answer (powerOnEntry r a sectors image used) (λ (o : PowerOnAfter). o .answer) refl (λ n. refl)
-
 module _ (r a : List ℕ) (disk : Disk) (image : List ℕ) (used : ℕ) where
   abbrev sectors : List ℕ
   sectors = disk .sectors
@@ -64,7 +57,7 @@ module _ (r a : List ℕ) (disk : Disk) (image : List ℕ) (used : ℕ) where
 
     -- the machine's power-on has fewer checks: those of disk and image
     disk-passed : firstFailed (diskChecks sectors image used) ≡ 0
-    disk-passed = pass-all (diskChecks sectors image used) (all-pass 8 (powerOnChecks r a sectors image used) (numbered r a sectors image used) on-passed .1 .1)
+    disk-passed = pass-all (diskChecks sectors image used) (all-pass 8 (powerOnChecks r a sectors image used) (omega arith) on-passed .1 .1)
 
     started-is : started r a disk image used ≡ store (encode (poweredContents sectors image used)) (zeros privateSize) disk
     unfolding powerOnBytes
@@ -94,4 +87,8 @@ module _ (r a : List ℕ) (disk : Disk) (image : List ℕ) (used : ℕ) where
 
 -- THEOREM: condition 3.
 pub condition-3 : Condition3
-condition-3 r a disk image used answers diskBytes imageBytes xs fed = follows-machine r a disk image used answers diskBytes imageBytes xs fed
+condition-3 r a disk image used diskBytes imageBytes =
+    record {
+      answersZero = no-refusal r a disk image used imageBytes;
+      followed = λ answers xs fed. follows-machine r a disk image used answers diskBytes imageBytes xs fed;
+    }

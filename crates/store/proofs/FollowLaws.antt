@@ -1,12 +1,12 @@
 -- Valid bytes, the machine that they represent, and how a store into a slot or the fill sector changes it.
-use mathlib.Core.Path.{_≡_, refl, sym, ap, ap₂, subst}
+use mathlib.Core.Path.{_≡_, refl, sym, ap, ap₂, subst, _∙_}
 use mathlib.Core.Bool.{Bool, true, false}
-use Prim.Native.Nat.{ℕ, _+_, _≤_, _<_}
+use Prim.Native.Nat.{ℕ, _+_, _-_, _*_, _≤_, _<_}
 use native.Mathlib.Omega.{arith}
 use native.Mathlib.Decide.{decLt, decLe}
 use mathlib.Core.List.{List}
-use lib.ListN.{length, getD, set, List·getD-eq-default}
-use lib.Seq.{sets, getD-set-same, getD-set-other}
+use lib.ListN.{length, getD, set, drop, List·getD-eq-default}
+use lib.Seq.{sets, getD-set-same, getD-set-other, getD-drop}
 use lib.Dec.{eqb}
 use borrow.Author.Tests.{eqb-true, eqb-false}
 use Rattle.wire.specs.Choice.{if_then_else_}
@@ -26,8 +26,33 @@ use Rattle.store.specs.Record.{Stage, empty, held, answered, Contents, e
 use Rattle.store.specs.Sound.{sound}
 use Rattle.store.specs.Store.{Store, portOf, slotBytes, fillSectorOf, stageFor, machineFrom, machineOf}
 use Rattle.store.specs.OnStore.{store}
+use Rattle.store.specs.Condition3.{keptHidden}
 use Rattle.store.proofs.RecordLaws.{ContentsValid, valid-fits, bytes-encode, decode-encode}
 use Rattle.store.proofs.SoundLaws.{sound-valid, sound-encode}
+
+-- ---- what the definitions state of the bytes, in numbers
+
+-- "Our device is read from record and fill sector; .. a slot is empty, held or answered as the machine's port holds nothing, a request or a reply."
+pub record MachineRead (s : Store) : Type 0 where
+  pub device : machineOf s .device ≡ decode (s .recordArea) .device
+  pub sector : machineOf s .sector ≡ whileRunning (decode (s .recordArea) .device .command .fill) (part (s .privateArea) 2112 512)
+  pub ports : (p : ℕ) → machineOf s .ports p ≡ portOf (getD (decode (s .recordArea) .stages) p empty) (part (s .privateArea) (528 * p) 528)
+  pub disk : machineOf s .disk ≡ s .disk
+
+pub machine-read : (s : Store) → MachineRead s
+unfolding machineOf
+machine-read s = record { device = refl; sector = refl; ports = λ p. refl; disk = refl }
+
+-- what `keptHidden` states, byte by byte: those from 512 V on are the same, with V of the record before
+pub hidden-bytes : (s t : Store) → keptHidden s t → (i : ℕ) → 512 * decode (s .recordArea) .device .visible ≤ i → getD (t .disk .sectors) i 0 ≡ getD (s .disk .sectors) i 0
+unfolding machineOf
+hidden-bytes s t same i h =
+    let from = 512 * decode (s .recordArea) .device .visible in
+    let at : (disk : Disk) → getD (drop from (disk .sectors)) (i - from) 0 ≡ getD (disk .sectors) i 0 =
+    λ disk. getD-drop from (disk .sectors) (i - from) 0 ∙ ap (λ (k : ℕ). getD (disk .sectors) k 0) (omega arith) in
+    sym (at (t .disk)) ∙ ap (λ (hidden : Disk). getD (hidden .sectors) (i - from) 0) same ∙ at (s .disk)
+
+-- ---- valid bytes
 
 -- A sound record, a private area of its size, and a disk of N sectors.
 pub record StoreValid (s : Store) : Type 0 where

@@ -8,8 +8,9 @@ pub mod StageLaws
 pub mod ExitLaws
 pub mod FollowLaws
 pub mod StepFollows
-pub mod Condition3Holds
+pub mod PowerOnAnswers
 pub mod AnswerLaws
+pub mod Condition3Holds
 pub mod EntryRefusals
 pub mod SavedBack
 pub mod AfterPowerOn

@@ -23,7 +23,7 @@ use Rattle.store.specs.OnStore.{onStore}
 use Rattle.store.proofs.RecordLaws.{ContentsValid, valid-fits, decode-encode}
 use Rattle.store.proofs.ExitLaws.{storeChecks, on-done}
 use Rattle.store.proofs.FollowLaws.{StoreValid, contents-valid}
-use Rattle.store.proofs.Condition3Holds.{power-on-answer}
+use Rattle.store.proofs.PowerOnAnswers.{power-on-answer}
 use Rattle.store.proofs.AnswerLaws.{entry-answer, entry-order}
 
 module _ (s : Store) (v : StoreValid s) (image : List ℕ) (used : ℕ) (saves : onStore (save image used) s .seen .answer ≡ 0) where

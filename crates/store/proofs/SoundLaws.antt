@@ -141,7 +141,21 @@ module _ (d : Device) where
       )
       (ranges-states (s .writeCache .state) (s .reordering .state) (s .logInterval .state) (v .cacheValid) (v .reorderingValid) (v .intervalValid))
 
-  -- every test implies its clause ..
+  -- if the clauses hold, the tests pass ..
+  pub clauses-tests : Valid d → deviceSound d ≡ true
+  unfolding deviceSound
+  clauses-tests v =
+      rw (
+        le-leb 1 (d .visible) (v .sizes .0),
+        le-leb (d .visible) (d .native) (v .sizes .1),
+        le-leb (d .native) nativeLimit (v .sizes .2),
+        command-tests (v .commandValid),
+        settings-tests (v .settingsValid),
+        lt-ltb (d .thermal .minutes) (d .settings .logInterval .state) (v .thermalValid .minutesValid),
+      )
+      (lt-ltb (d .thermal .index) _ (omega (arith, v .thermalValid .indexValid)))
+
+  -- .. and every test implies its clause
   pub tests-clauses : DeviceFits d → deviceSound d ≡ true → Valid d
   unfolding deviceSound
   tests-clauses f e =
@@ -161,20 +175,6 @@ module _ (d : Device) where
               bytes = f .temperatures;
             };
       }
-
-  -- .. and if the clauses hold, the tests pass
-  pub clauses-tests : Valid d → deviceSound d ≡ true
-  unfolding deviceSound
-  clauses-tests v =
-      rw (
-        le-leb 1 (d .visible) (v .sizes .0),
-        le-leb (d .visible) (d .native) (v .sizes .1),
-        le-leb (d .native) nativeLimit (v .sizes .2),
-        command-tests (v .commandValid),
-        settings-tests (v .settingsValid),
-        lt-ltb (d .thermal .minutes) (d .settings .logInterval .state) (v .thermalValid .minutesValid),
-      )
-      (lt-ltb (d .thermal .index) historySize (v .thermalValid .indexValid))
 
 -- ---- the values of a record fit their places
 

@@ -1,7 +1,7 @@
 -- `desk_session::turns::exchange` meets its contract.
-use Rattle.desk_session.specs.Turn.{served, given, worked}
+use Rattle.desk_session.specs.Turn.{served, given}
 use native.Mathlib.Omega.{arith}
-use Rattle.desk_session.proofs.TurnLaws.{count-within, result-count}
+use Rattle.sct_disk.proofs.ResultLaws.{work-result}
 use borrow.Author.Needs.{needs}
 use Rattle.desk_session.proofs.turns.exchange.Statement.{statement}
 use Rattle.desk_session.proofs.turns.exchange.Tie as tie
@@ -23,9 +23,8 @@ returns c =
     let s = at-sct-serve .sct-serve .ensures in
     let g = at-sct-give .sct-give .ensures in
     let w = at-sct-work .sct-work .ensures in
-    let within = count-within (given r p d m n .recordArea) (served r p d m n .privateArea) (served r p d m n .disk) n in
     record {
-      counted = result-count (at-sct-work .sct-work .result) (worked r p d m n .answer) (worked r p d m n .count) (rw (g .1 .0, s .1 .0, s .1 .1 .0, s .1 .1 .1, t .1 .0, t .1 .1) at (w .0)) (omega (arith, within, entry .fits));
+      counted = work-result (given r p d m n .recordArea) (served r p d m n .privateArea) (served r p d m n .disk) n (at-sct-work .sct-work .result) (omega (arith, entry .fits)) (rw (g .1 .0, s .1 .0, s .1 .1 .0, s .1 .1 .1, t .1 .0, t .1 .1) at (w .0)) .1;
       recordBytes = rw (w .1 .0, g .1 .0, s .1 .0, s .1 .1 .0, s .1 .1 .1, t .1 .0, t .1 .1);
       areaBytes = rw (s .1 .1 .0, t .1 .0, t .1 .1);
       diskBytes = rw (w .1 .1, g .1 .0, s .1 .0, s .1 .1 .0, s .1 .1 .1, t .1 .0, t .1 .1);
