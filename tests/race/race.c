@@ -196,7 +196,7 @@ static double seconds_now(void)
     return (double)t.tv_sec + (double)t.tv_nsec / 1e9;
 }
 
-/* The mailbox still holds the last reply: lets a thread write a request over it. */
+/* Lets a thread write a request over what the mailbox holds. */
 static void wait_for_request(void)
 {
     static uint64_t seen[WRITERS];
@@ -218,6 +218,8 @@ static void run(double duration)
 
         wait_for_request();
         take(port);
+        if (exchanges % 2 == 0)         /* another request, also where the threads share one processor */
+            wait_for_request();
         serve(port);
         work((uint32_t)below(&r, 6));
         give(port);
