@@ -1,3 +1,6 @@
+/*
+ * state.c - the state file read and written, and one request handled (state.h).
+ */
 #define _POSIX_C_SOURCE 200809L
 
 #include "state.h"
