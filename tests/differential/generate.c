@@ -130,7 +130,7 @@ static uint64_t any_count(struct random *r, const struct record_fields *f, uint6
     case 0:
     case 1:  return 0;
     case 2:
-    case 3:  return left - 1 + below(r, 4) - 1;     /* around the last count allowed */
+    case 3:  return left - 1 + below(r, 4);         /* around the last count allowed */
     case 4:  return 0 - start + below(r, 3);        /* the sum is 2^64 and a little */
     case 5:  return near_limit(r, f);
     default: return between(r, 1, 4);
@@ -625,7 +625,7 @@ static void plan_fill(struct list *l)
     status_by(l, port + 1);
 }
 
-/* The whole visible disk is filled; then something that may clear the flag. */
+/* The whole visible disk is filled, or all but its last sector; then something that may clear the flag. */
 static void plan_whole_fill(struct list *l)
 {
     struct random *r = &l->random;
@@ -635,7 +635,11 @@ static void plan_whole_fill(struct list *l)
     uint64_t count;
 
     fields_now(l, &f);
-    count = once_in(r, 3) ? f.visible - 1 : 0;
+    switch (below(r, 3)) {
+    case 0:  count = f.visible - 1; break;
+    case 1:  count = f.visible; break;
+    default: count = 0; break;
+    }
     build_fill(mailbox, SMART, 1, 0, count, (uint32_t)random64(r));
     exchange(l, port, mailbox);
     if (once_in(r, 3))

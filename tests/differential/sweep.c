@@ -361,9 +361,10 @@ static bool try_fills(struct pair *pair, struct statistics *s, uint64_t visible)
 
     for (unsigned i = 0; i < count; i++) {
         uint64_t a = numbers[i];
-        uint64_t left = visible - 1 - a;    /* the last Count allowed, where this Start is */
+        uint64_t left = visible - a;    /* the last Count allowed, where this Start is */
         const struct { uint64_t start, count; } fills[] = {
-            { a, 0 }, { a, left }, { a, left + 1 }, { a, 0 - a }, { a, 1 - a }, { 0, a }, { 1, a }, { visible - 1, a }
+            { a, 0 }, { a, left - 1 }, { a, left }, { a, left + 1 }, { a, 0 - a }, { a, 1 - a },
+            { 0, a }, { 1, a }, { visible - 1, a }
         };
 
         for (size_t k = 0; k < sizeof fills / sizeof fills[0]; k++)

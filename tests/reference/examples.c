@@ -1,7 +1,8 @@
 /*
- * examples.c - the paper's marked examples, and the sentences that are easily
- * read wrongly, with the outcome written down by hand. Run on the reference
- * and on the archive: this ties both to the paper and not just to each other.
+ * examples.c - the paper's marked examples, those of the change requests, and
+ * the sentences that are easily read wrongly, with the outcome written down by
+ * hand. Run on the reference and on the archive: this ties both to the papers
+ * and not just to each other.
  */
 #include <stdbool.h>
 #include <stdio.h>
@@ -59,6 +60,11 @@ static void sample(uint8_t reading)
     expect("sample", code->sample(device, sizeof device, reading), SCT_DONE);
 }
 
+static void set_visible(uint64_t visible)
+{
+    expect("set V", code->set_visible(device, sizeof device, visible), SCT_DONE);
+}
+
 /* The status sector, read on port 3 (which stops nothing). */
 static const uint8_t *status(void)
 {
@@ -82,14 +88,38 @@ static void expect_key(const char *what, uint16_t wanted)
 
 /* ---- The marked examples -------------------------------------------------------- */
 
+static void fill_example_at(uint64_t visible, uint64_t start, uint64_t count, uint16_t wanted)
+{
+    char what[96];
+
+    snprintf(what, sizeof what, "V %llu, fill, Start %llu, Count %llu", (unsigned long long)visible,
+             (unsigned long long)start, (unsigned long long)count);
+    power_on(0);
+    set_visible(visible);
+    build_fill(mail, SMART, 1, start, count, 0x5A5A5A5A);
+    expect_key(what, wanted);
+}
+
 static void fill_example(uint64_t start, uint64_t count, uint16_t wanted)
 {
-    char what[80];
+    fill_example_at(SECTORS, start, count, wanted);
+}
 
-    snprintf(what, sizeof what, "fill, Start %llu, Count %llu", (unsigned long long)start, (unsigned long long)count);
-    power_on(0);
-    build_fill(mail, SMART, 1, start, count, 0);
-    expect_key(what, wanted);
+/* An accepted fill is worked to its end: Count sectors, no other, and the flag that there is then. */
+static void fill_ends(uint64_t visible, uint64_t start, uint64_t count, uint8_t flag)
+{
+    unsigned right = 0;
+
+    memset(disk, 0, sizeof disk);
+    fill_example_at(visible, start, count, 0);
+    expect("code of a fill that runs", stored_code(), 0xFFFF);
+    expect("flag before its end", status()[6], 0);
+    expect("work to its end", work(0xFFFFFFFF), count);
+    expect("code at its end", stored_code(), 0);
+    expect("flag at its end", status()[6], flag);
+    for (uint64_t i = 0; i < SECTORS; i++)
+        right += disk[i * SCT_SECTOR_BYTES] == (i >= start && i - start < count ? 0x5A : 0);
+    expect("sectors that are as they must be", right, SECTORS);
 }
 
 static void key_example(const char *what, uint16_t action, uint16_t function, uint16_t word2, uint16_t word3,
@@ -106,7 +136,6 @@ static void key_examples(void)
     fill_example(63, 0, 0);
     fill_example(64, 0, 0x0002);
     fill_example(0, 63, 0);
-    fill_example(0, 64, 0x0002);
     fill_example(1, UINT64_MAX, 0x0002);
     key_example("action 1", 1, 1, 0, 0, 0, 0x0010);
     key_example("read timer 9", 3, 1, 1, 9, 0, 0x0006);
@@ -114,6 +143,47 @@ static void key_examples(void)
     key_example("read timer 0", 3, 1, 1, 0, 0, 0);
     key_example("write timer 9", 3, 1, 2, 9, 0, 0x0007);
     key_example("feature 3, state 0, option 2", 4, 1, 3, 0, 2, 0x000E);
+}
+
+/*
+ * W-201: "Start 0 with Count 64 at V = 64 is now accepted and sets the flag at
+ * its end; Count 65 is 0002h."
+ */
+static void fill_by_count(void)
+{
+    fill_ends(64, 0, 64, 1);
+    fill_ends(64, 0, 63, 0);
+    fill_example(0, 65, 0x0002);
+    fill_ends(64, 63, 1, 0);
+    fill_example(63, 2, 0x0002);
+    fill_ends(64, 1, 63, 0);
+    fill_example(1, 64, 0x0002);
+    fill_example(64, 1, 0x0002);
+    fill_example(0, UINT64_MAX, 0x0002);
+    fill_example(63, UINT64_MAX - 62, 0x0002);      /* the sum is 2^64 */
+    fill_example(63, UINT64_MAX, 0x0002);           /* and 2^64 + 62 */
+    fill_ends(1, 0, 1, 1);
+    fill_example_at(1, 0, 2, 0x0002);
+    fill_example_at(1, 1, 0, 0x0002);
+    fill_ends(32, 0, 32, 1);                        /* V, not N */
+    fill_example_at(32, 0, 33, 0x0002);
+}
+
+/* The same of a fill by a sector. */
+static void sector_fill_by_count(void)
+{
+    power_on(0);
+    build_fill(mail, LOG_EXT, 2, 0, SECTORS + 1, 0);
+    expect_key("sector fill, Count 65", 0x0002);
+    expect("LBA Mid, no sector is to follow", mail[R_MID], 0);
+    build_fill(mail, LOG_EXT, 2, 0, SECTORS, 0);
+    expect_key("sector fill, Count 64", 0);
+    expect("LBA Mid, one sector is to follow", mail[R_MID], 1);
+    build_data_write(mail, LOG_EXT);
+    send(0);
+    expect("E1h", mail[R_STATUS], 0x50);
+    expect("work", work(0xFFFFFFFF), SECTORS);
+    expect("flag", status()[6], 1);
 }
 
 static void temperature_example(void)
@@ -193,7 +263,7 @@ static void shrunk_disk(void)
     build_fill(mail, SMART, 1, 0, 0, 0x11111111);
     expect_key("fill of all", 0);
     expect("work", work(4), 4);
-    expect("set V", code->set_visible(device, sizeof device, 32), SCT_DONE);
+    set_visible(32);
     expect("work after V shrank", work(100), 0);
     expect("code", stored_code(), 0x0008);
     build_sector(mail, true, 32, 1);
@@ -246,6 +316,8 @@ static void run(const struct implementation *implementation)
     code = implementation;
     memset(disk, 0, sizeof disk);
     key_examples();
+    fill_by_count();
+    sector_fill_by_count();
     temperature_example();
     work_example();
     memset(disk, 0, sizeof disk);

@@ -3,8 +3,9 @@
  * against, and to be read along with the paper.
  *
  * It has the archive's ten entries (prefix ref_) over the archive's buffers,
- * and gives the same bytes. Each section quotes the sentences it follows. The
- * offsets in the record are those of docs/record-layout.md.
+ * and gives the same bytes. Each section quotes the sentences it follows; one
+ * of a change request has the request's number before it. The offsets in the
+ * record are those of docs/record-layout.md.
  *
  * Two of the paper's words have other names here: an "owed" transfer is a
  * pending transfer, and a feature with a "mark" is persistent.
@@ -47,6 +48,7 @@
  *  22   a full image is answered before another disk's
  *  23   the history wraps one reading early
  *  24   only 32 bits of a sector's LBA are compared
+ *  25   Start + Count above the last user LBA is refused (the rule before W-201)
  */
 #ifdef PLANT
 #define PLANTED(n) (PLANT == (n))
@@ -729,9 +731,22 @@ static uint16_t word(const uint8_t *key, int number)
 /* Each judge_ function gives the code of the refusal, or 0: accepted. */
 
 /*
- * "Start above last user LBA, or Start + Count above last user LBA: 0002h".
  * "Start + Count is a whole-number sum; it never wraps": so Count is compared
- * with what is left after Start.
+ * with the number of sectors from Start on. Start is not above the last.
+ */
+static bool sum_exceeds_visible(const struct device *d, uint64_t start, uint64_t count)
+{
+    if (PLANTED(2))
+        return start + count > d->visible;
+    if (PLANTED(25))
+        return count > d->visible - 1 - start;
+    return count > d->visible - start;
+}
+
+/*
+ * "1 pattern, 2 sector; else 0001h". W-201: "Refuse when Start is above the
+ * last user LBA, or when Count is not 0 and Start + Count exceeds the visible
+ * size." "0002h keeps its place."
  */
 static uint16_t judge_fill(const struct device *d, const uint8_t *key)
 {
@@ -744,7 +759,7 @@ static uint16_t judge_fill(const struct device *d, const uint8_t *key)
         return BAD_FUNCTION;
     if (start > (PLANTED(1) ? last + 1 : last))
         return BAD_RANGE;
-    if (PLANTED(2) ? start + count > last : count > last - start)
+    if (count != 0 && sum_exceeds_visible(d, start, count))
         return BAD_RANGE;
     return 0;
 }

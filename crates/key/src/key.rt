@@ -64,12 +64,12 @@ fn fill_end(first: u64, sectors: u64, visible: u64) -> u64
     first + sectors
 }
 
-// Whether Start + Count is at most the last user LBA. The sum is not computed: it may not fit in 64 bits.
-fn sum_within(first: u64, sectors: u64, last: u64) -> bool
-    requires { ⌜ first ≤ last ⌝ }
-    ensures { λ r. ⌜ r ≡ leb (first + sectors) last ⌝ }
+// Whether Start + Count is at most the visible size. The sum is not computed: it may not fit in 64 bits.
+fn sum_within(first: u64, sectors: u64, visible: u64) -> bool
+    requires { ⌜ first ≤ visible ⌝ }
+    ensures { λ r. ⌜ r ≡ leb (first + sectors) visible ⌝ }
 {
-    sectors <= last - first
+    sectors <= visible - first
 }
 
 // "1 pattern, 2 sector"
@@ -82,7 +82,8 @@ fn fill_asked(function: u16, first: u64, end: u64) -> Action
     Action::FillSector(first, end)
 }
 
-// Action 2: "1 pattern, 2 sector; else 0001h"; "Start above last user LBA, or Start + Count above last user LBA: 0002h".
+// Action 2: "1 pattern, 2 sector; else 0001h"; then 0002h: "Refuse when Start is above the last user LBA, or when Count is not 0 and Start +
+// Count exceeds the visible size."
 fn fill_key(function: u16, first: u64, sectors: u64, visible: u64) -> Verdict
     requires { ⌜ 1 ≤ visible ⌝ }
     ensures { λ r. ⌜ ((k : List ℕ) → word k 1 ≡ function → start k ≡ first → count k ≡ sectors → asVerdict r (patternSector k) ≡ verdict (firstFailed (fillChecks visible k)) (fillAction visible k)) ⌝ }
@@ -94,7 +95,7 @@ fn fill_key(function: u16, first: u64, sectors: u64, visible: u64) -> Verdict
     if first > last {
         return Verdict::Rejected(sct::LBA_OUT_OF_RANGE);
     }
-    if !sum_within(first, sectors, last) {
+    if !sum_within(first, sectors, visible) {
         return Verdict::Rejected(sct::LBA_OUT_OF_RANGE);
     }
     let end = fill_end(first, sectors, visible);

@@ -66,12 +66,13 @@ verdict-rejected (suc n) a code e = cc
 
 -- ---- fills
 
--- "Start + Count is a whole-number sum; it never wraps": for an accepted fill it is at most the last user LBA
-pub accepted-fill-sum : (d : Device) (k : List ℕ) (a : Action) → word k 0 ≡ 2 → judgeKey d k ≡ accepted a → start k + count k ≤ d .visible - 1
+-- "Start + Count is a whole-number sum; it never wraps": for an accepted fill it is at most V
+pub accepted-fill-sum : (d : Device) (k : List ℕ) (a : Action) → word k 0 ≡ 2 → judgeKey d k ≡ accepted a → start k + count k ≤ d .visible
 unfolding keyChecks
 accepted-fill-sum d k a two e =
     let rows : AllPass (fillChecks (d .visible) k) = rw (eq-eqb (word k 0) 2 two) at (key-accepted d k a e .0 .1 .1) in
-    leb-true (start k + count k) (lastLba (d .visible)) (rows .1 .1 .0)
+    let sum = leb-true (start k + count k) _ (rows .1 .1 .0) in
+    omega (arith, sum)
 
 -- the fill's first sector is Start; "Count 0 means up to the last user LBA"
 pub accepted-pattern : (d : Device) (k : List ℕ) (a : Action) → word k 0 ≡ 2 → word k 1 ≡ 1 → judgeKey d k ≡ accepted a
@@ -89,6 +90,11 @@ fill-end-zero visible k e = rw e
 
 pub fill-end-count : (visible : ℕ) (k : List ℕ) → (count k ≡ 0 → ⊥) → fillEnd visible k ≡ start k + count k
 fill-end-count visible k e = rw (ne-eqb (count k) 0 e)
+
+-- W-201: a fill with a count ends at Start + Count, which is at most V
+pub accepted-fill-count : (d : Device) (k : List ℕ) (a : Action) → word k 0 ≡ 2 → judgeKey d k ≡ accepted a → (count k ≡ 0 → ⊥)
+    → (fillEnd (d .visible) k ≡ start k + count k) × (start k + count k ≤ d .visible)
+accepted-fill-count d k a two e some = (fill-end-count (d .visible) k some, accepted-fill-sum d k a two e)
 
 -- "bytes 20-23 repeated 128 times"
 pub pattern-bytes : (k : List ℕ) (i : ℕ) → length k ≡ sectorSize → i < sectorSize → getD (patternSector k) i 0 ≡ getD k (20 + i % 4) 0
@@ -143,10 +149,10 @@ module _ (visible : ℕ) (k : List ℕ) (some : 1 ≤ visible) (size : length k 
   end-valid : AllPass (fillChecks visible k) → (start k < fillEnd visible k) × (fillEnd visible k ≤ visible)
   end-valid rows =
       let low = leb-true (start k) (lastLba visible) (rows .1 .0) in
-      let sum = leb-true (start k + count k) (lastLba visible) (rows .1 .1 .0) in
-      go (eqb (count k) 0) refl low sum
+      let sum = leb-true (start k + count k) _ (rows .1 .1 .0) in
+      go (eqb (count k) 0) refl low (omega (arith, sum))
     where
-      go : (b : Bool) → eqb (count k) 0 ≡ b → start k ≤ lastLba visible → start k + count k ≤ lastLba visible
+      go : (b : Bool) → eqb (count k) 0 ≡ b → start k ≤ lastLba visible → start k + count k ≤ visible
           → (start k < (if b then visible else start k + count k)) × ((if b then visible else start k + count k) ≤ visible)
       go true e low sum = (omega arith, omega arith)
       go false e low sum = let some-count = eqb-false (count k) 0 e in (omega arith, omega arith)

@@ -18,6 +18,46 @@ Within low x high = between low x high ≡ true
 abbrev pub Beyond : ℕ → ℕ → ℕ → Type 0
 Beyond low x high = between low x high ≡ false
 
+-- ---- a key that passes every row is accepted, with what its words ask for
+
+module _ (d : Device) (k : List ℕ) (unlocked : d .locked ≡ false) where
+  abbrev isAccepted : Type 0
+  isAccepted = judgeKey d k ≡ accepted (actionOf (d .visible) k)
+
+  pub accepts-fill : word k 0 ≡ 2 → Within 1 (word k 1) 2 → start k ≤ d .visible - 1 → start k + count k ≤ d .visible → isAccepted
+  unfolding judgeKey keyChecks
+  accepts-fill fill f low sum = rw (unlocked, fill, f, le-leb (start k) (d .visible - 1) low, le-leb (start k + count k) (d .visible) sum)
+
+  -- "0 is off"
+  pub accepts-timer : word k 0 ≡ 3 → word k 1 ≡ 1 → Within 1 (word k 2) 2 → Beyond 1 (word k 3) 9 → isAccepted
+  unfolding judgeKey keyChecks
+  accepts-timer timers f n v = rw (unlocked, timers, f, n, v)
+
+  pub accepts-timer-return : word k 0 ≡ 3 → word k 1 ≡ 2 → Within 1 (word k 2) 2 → isAccepted
+  unfolding judgeKey keyChecks
+  accepts-timer-return timers f n = rw (unlocked, timers, f, n)
+
+  pub accepts-feature : word k 0 ≡ 4 → word k 1 ≡ 1 → Within 1 (word k 2) 3 → Within 1 (word k 3) (highestState (word k 2)) → word k 4 ≤ 1 → isAccepted
+  unfolding judgeKey keyChecks
+  accepts-feature feature f n v o = rw (unlocked, feature, f, n, v, le-leb (word k 4) 1 o)
+
+  -- "set only"
+  pub accepts-feature-return : word k 0 ≡ 4 → Within 2 (word k 1) 3 → Within 1 (word k 2) 3 → isAccepted
+  unfolding judgeKey keyChecks
+  accepts-feature-return feature f n =
+      let b = between-true 2 (word k 1) 3 f in
+      rw (unlocked, feature, between-within 1 (word k 1) 3 (omega arith) (b .1), n, ne-eqb (word k 1) 1 (λ e. omega arith))
+
+  pub accepts-table : word k 0 ≡ 5 → word k 1 ≡ 1 → word k 2 ≡ 2 → isAccepted
+  unfolding judgeKey keyChecks
+  accepts-table table f n = rw (unlocked, table, f, n)
+
+-- "Feature states: 1 (write cache) 1 to 3; 2 (reordering) 1 or 2; 3 (log interval) 1 to 65,535 minutes."
+pub states : (highestState 1 ≡ 3) × (highestState 2 ≡ 2) × (highestState 3 ≡ 65535)
+states = (refl, refl, refl)
+
+-- ---- a key that passes the rows above and fails this one gets this code
+
 module _ (d : Device) (k : List ℕ) where
   -- any action, locked: 0012h
   pub key-locked : d .locked ≡ true → judgeKey d k ≡ rejected 0x0012
@@ -40,9 +80,9 @@ module _ (d : Device) (k : List ℕ) where
       unfolding judgeKey keyChecks
       fill-start f h = rw (unlocked, fill, f, lt-leb (start k) (d .visible - 1) h)
 
-      pub fill-sum : Within 1 (word k 1) 2 → start k ≤ d .visible - 1 → d .visible - 1 < start k + count k → judgeKey d k ≡ rejected 0x0002
+      pub fill-sum : Within 1 (word k 1) 2 → start k ≤ d .visible - 1 → d .visible < start k + count k → judgeKey d k ≡ rejected 0x0002
       unfolding judgeKey keyChecks
-      fill-sum f l h = rw (unlocked, fill, f, le-leb (start k) (d .visible - 1) l, lt-leb (start k + count k) (d .visible - 1) h)
+      fill-sum f l h = rw (unlocked, fill, f, le-leb (start k) (d .visible - 1) l, lt-leb (start k + count k) (d .visible) h)
 
     -- "3 timers"
     module _ (timers : word k 0 ≡ 3) where
@@ -91,41 +131,3 @@ module _ (d : Device) (k : List ℕ) where
       pub table-name : word k 1 ≡ 1 → (word k 2 ≡ 2 → ⊥) → judgeKey d k ≡ rejected 0x0011
       unfolding judgeKey keyChecks
       table-name f n = rw (unlocked, table, f, ne-eqb (word k 2) 2 n)
-
--- ---- a key that passes every row is accepted, with what its words ask for
-
-module _ (d : Device) (k : List ℕ) (unlocked : d .locked ≡ false) where
-  abbrev isAccepted : Type 0
-  isAccepted = judgeKey d k ≡ accepted (actionOf (d .visible) k)
-
-  pub accepts-fill : word k 0 ≡ 2 → Within 1 (word k 1) 2 → start k ≤ d .visible - 1 → start k + count k ≤ d .visible - 1 → isAccepted
-  unfolding judgeKey keyChecks
-  accepts-fill fill f low sum = rw (unlocked, fill, f, le-leb (start k) (d .visible - 1) low, le-leb (start k + count k) (d .visible - 1) sum)
-
-  -- "0 is off"
-  pub accepts-timer : word k 0 ≡ 3 → word k 1 ≡ 1 → Within 1 (word k 2) 2 → Beyond 1 (word k 3) 9 → isAccepted
-  unfolding judgeKey keyChecks
-  accepts-timer timers f n v = rw (unlocked, timers, f, n, v)
-
-  pub accepts-timer-return : word k 0 ≡ 3 → word k 1 ≡ 2 → Within 1 (word k 2) 2 → isAccepted
-  unfolding judgeKey keyChecks
-  accepts-timer-return timers f n = rw (unlocked, timers, f, n)
-
-  pub accepts-feature : word k 0 ≡ 4 → word k 1 ≡ 1 → Within 1 (word k 2) 3 → Within 1 (word k 3) (highestState (word k 2)) → word k 4 ≤ 1 → isAccepted
-  unfolding judgeKey keyChecks
-  accepts-feature feature f n v o = rw (unlocked, feature, f, n, v, le-leb (word k 4) 1 o)
-
-  -- "set only"
-  pub accepts-feature-return : word k 0 ≡ 4 → Within 2 (word k 1) 3 → Within 1 (word k 2) 3 → isAccepted
-  unfolding judgeKey keyChecks
-  accepts-feature-return feature f n =
-      let b = between-true 2 (word k 1) 3 f in
-      rw (unlocked, feature, between-within 1 (word k 1) 3 (omega arith) (b .1), n, ne-eqb (word k 1) 1 (λ e. omega arith))
-
-  pub accepts-table : word k 0 ≡ 5 → word k 1 ≡ 1 → word k 2 ≡ 2 → isAccepted
-  unfolding judgeKey keyChecks
-  accepts-table table f n = rw (unlocked, table, f, n)
-
--- "Feature states: 1 (write cache) 1 to 3; 2 (reordering) 1 or 2; 3 (log interval) 1 to 65,535 minutes."
-pub states : (highestState 1 ≡ 3) × (highestState 2 ≡ 2) × (highestState 3 ≡ 65535)
-states = (refl, refl, refl)

@@ -19,6 +19,7 @@ pub mod RecordedLaws
 pub mod TemperatureLaws
 pub mod OwnerLaws
 pub mod WorkLaws
+pub mod WholeFill
 pub mod ValidDevice
 pub mod ValidRequest
 pub mod StateLaws

@@ -92,9 +92,10 @@ starred =
     -- "Start 63, Count 0 accepted." "Start 64, Count 0: 0002h."
     (key (fillKey 63 0), acceptedFill 63 64)
     ∷ (key (fillKey 64 0), refusedKey 0x0002)
-    -- "Start 0, Count 63 accepted; * Count 64: 0002h." "Start 1, Count 2^64-1: 0002h."
+    -- "Start 0, Count 63 accepted"; W-201: "Start 0 with Count 64 at V = 64 is now accepted ..; Count 65 is 0002h." "Start 1, Count 2^64-1: 0002h."
     ∷ (key (fillKey 0 63), acceptedFill 0 63)
-    ∷ (key (fillKey 0 64), refusedKey 0x0002)
+    ∷ (key (fillKey 0 64), acceptedFill 0 64)
+    ∷ (key (fillKey 0 65), refusedKey 0x0002)
     ∷ (key (fillKey 1 (2 ^ 64 - 1)), refusedKey 0x0002)
     -- "Action 1: 0010h."
     ∷ (key (wordsKey 1 1 0 0 0), refusedKey 0x0010)

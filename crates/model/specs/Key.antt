@@ -27,13 +27,13 @@ lastLba visible = visible - 1
 
 -- ---- the checks: a row is what must hold, and the code given if it does not
 
--- Action 2: "1 pattern, 2 sector; else 0001h"; "Start above last user LBA, or Start + Count above last user LBA: 0002h"
--- "Start + Count is a whole-number sum; it never wraps."
+-- Action 2: "1 pattern, 2 sector; else 0001h"; then 0002h: "Refuse when Start is above the last user LBA, or when Count is not 0 and Start + Count
+-- exceeds the visible size." (W-201; with Count 0 the last row holds after the one before it.) "Start + Count is a whole-number sum; it never wraps."
 abbrev pub fillChecks : ℕ → Sector → List Check
 fillChecks visible k =
     (between 1 (word k 1) 2, 0x0001)
     ∷ (leb (start k) (lastLba visible), 0x0002)
-    ∷ (leb (start k + count k) (lastLba visible), 0x0002)
+    ∷ (leb (start k + count k) visible, 0x0002)
     ∷ []
 
 -- Action 3: "1 set, 2 return; else 0004h"; "word 2 is 1 read or 2 write, else 0005h";

@@ -22,7 +22,7 @@ returns-3 c = λ k f s n.
 fill-end-requires : tie.Need-fill-end-requires
 fill-end-requires c κs =
     let a = c .before .before .before .before .before .args in
-    let h = leb-true (a .first + a .sectors) (a .visible - 1) (passed (c .before .sum-within .ensures) (c .if3 .left)) in
+    let h = leb-true (a .first + a .sectors) (a .visible) (passed (c .before .sum-within .ensures) (c .if3 .left)) in
     omega (arith, h)
 
 returns-4 : tie.Need-returns-4
