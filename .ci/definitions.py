@@ -1,4 +1,4 @@
-"""The one-token changes of the definitions of model and store, for .ci/one-token, which states what is changed to what.
+"""The one-token changes of the definitions of sector_check, model and store, for .ci/one-token, which states what is changed to what.
 
 The definitions are read for names and types only: enough that most changes are well formed. Types that differ in name are taken to be different,
 but for the names of runs of bytes (Mailbox, Sector, Record ..), which are expanded.
@@ -10,7 +10,8 @@ from typing import NamedTuple
 
 from sources import ROOT
 
-CRATES = ("wire", "model", "store")     # as they depend on each other; wire's definitions are read, for their types, and not changed
+CRATES = ("wire", "sector_check", "model", "store")     # as they depend on each other; wire's definitions are read, for their types, and not changed
+NEEDED = ("layout", *CRATES)                            # to check them
 EXAMPLES = "Examples"
 TOKEN = re.compile(r"[^\s(){};,]+")
 # tokens of one type, by the module from which they are imported

@@ -7,7 +7,8 @@
  *
  * "Exchange" is take, serve and give in a row. The reference is a plain C
  * program that opens the record into a struct, decides, and writes it back. In
- * one row the reference's column has memcpy.
+ * one row the reference's column has memcpy, in another a plain C loop over the
+ * bits of a sector, which makes its check.
  */
 #define _POSIX_C_SOURCE 200809L
 
@@ -27,6 +28,7 @@ enum { SECTORS = 4096, MOST_ROUNDS = 101 };
 static uint8_t  device[SCT_RECORD_BYTES];
 static uint8_t  area[SCT_PRIVATE_BYTES];
 static uint8_t  disk[(size_t)SECTORS * SCT_SECTOR_BYTES];
+static uint8_t  check_area[(size_t)SECTORS * SCT_CHECK_BYTES];
 static uint8_t  request[SCT_MAILBOX_BYTES], second[SCT_MAILBOX_BYTES], reply[SCT_MAILBOX_BYTES];
 static uint8_t  image[SCT_IMAGE_LIMIT];
 static uint64_t image_used;
@@ -52,7 +54,7 @@ static void expect_done(uint32_t answer)
 static void power_on(const struct implementation *code)
 {
     expect_done(code->power_on(device, sizeof device, area, sizeof area, disk, sizeof disk,
-                               image, sizeof image, image_used));
+                               check_area, sizeof check_area, image, sizeof image, image_used));
 }
 
 static void make_image(unsigned entries)
@@ -70,16 +72,56 @@ static void start(const struct implementation *code)
     power_on(code);
 }
 
+static void take(const struct implementation *code, uint32_t port, const uint8_t *mail)
+{
+    expect_done(code->take(device, sizeof device, port, mail, SCT_MAILBOX_BYTES, area, sizeof area));
+}
+
+static void serve(const struct implementation *code, uint32_t port)
+{
+    expect_done(code->serve(device, sizeof device, port, area, sizeof area, disk, sizeof disk,
+                            check_area, sizeof check_area));
+}
+
+static void give(const struct implementation *code, uint32_t port)
+{
+    expect_done(code->give(device, sizeof device, port, reply, sizeof reply, area, sizeof area));
+}
+
 static void exchange(const struct implementation *code, const uint8_t *mail)
 {
-    expect_done(code->take(device, sizeof device, 1, mail, SCT_MAILBOX_BYTES, area, sizeof area));
-    expect_done(code->serve(device, sizeof device, 1, area, sizeof area, disk, sizeof disk));
-    expect_done(code->give(device, sizeof device, 1, reply, sizeof reply, area, sizeof area));
+    take(code, 1, mail);
+    serve(code, 1);
+    give(code, 1);
 }
 
 static void save(const struct implementation *code)
 {
     expect_done(code->save(device, sizeof device, image, sizeof image, image_used));
+}
+
+/* One sector with random bits, as the check costs may depend on them. */
+enum { LBA = 77 };
+
+static void build_random_write(uint8_t *mail)
+{
+    struct random r = random_for(6, 6);
+
+    build_sector(mail, true, LBA, 1);
+    random_bytes(&r, mail + R_SECTOR, SCT_SECTOR_BYTES);
+}
+
+static void write_random(const struct implementation *code)
+{
+    build_random_write(second);
+    exchange(code, second);
+}
+
+static void repair(const struct implementation *code)
+{
+    uint64_t result = code->repair(device, sizeof device, disk, sizeof disk, check_area, sizeof check_area, LBA);
+
+    expect_done(sct_repair_answer(result));
 }
 
 /* ---- What is measured: each run_ function gives nanoseconds for one of `times` ------ */
@@ -103,21 +145,87 @@ MEASURE_EXCHANGE(status, build_status(request, SMART))
 MEASURE_EXCHANGE(key, build_key(request, SMART, 3, 1, 1, 70, 0))
 MEASURE_EXCHANGE(fill_key, build_fill(request, SMART, 1, 0, 0, 0x12345678))
 MEASURE_EXCHANGE(refused_key, build_fill(request, SMART, 1, 1, UINT64_MAX, 0))
-MEASURE_EXCHANGE(read, build_sector(request, false, 77, 1))
-MEASURE_EXCHANGE(write, build_sector(request, true, 77, 1))
+MEASURE_EXCHANGE(read, (write_random(code), build_sector(request, false, LBA, 1)))
+MEASURE_EXCHANGE(write, build_random_write(request))
 
 /* The key and the transfer, two exchanges. */
 MEASURE(table, (start(code), build_key(request, SMART, 5, 1, 2, 0, 0), build_data_read(second, SMART)),
         (exchange(code, request), exchange(code, second)))
 
+MEASURE(long_read, (start(code), build_long(request, SMART, 1, LBA), build_long_read(second, SMART)),
+        (exchange(code, request), exchange(code, second)))
+MEASURE(long_write, (start(code), build_long(request, SMART, 2, LBA), build_long_write(second, SMART)),
+        (exchange(code, request), exchange(code, second)))
+
 MEASURE(lock, start(code), expect_done(code->lock(device, sizeof device)))
 MEASURE(set_visible, start(code), expect_done(code->set_visible(device, sizeof device, SECTORS - i % 2)))
 MEASURE(sample, start(code), expect_done(code->sample(device, sizeof device, (uint8_t)i)))
+MEASURE(repair, (start(code), write_random(code)), repair(code))
 MEASURE(save_first, start(code), save(code))
 MEASURE(save_last, (start(code), make_image(116)), save(code))
 MEASURE(power_on_0, make_image(0), power_on(code))
 MEASURE(power_on_1, make_image(1), power_on(code))
 MEASURE(power_on_117, make_image(117), power_on(code))
+
+/*
+ * Serve alone, for all ports in a row: takes and gives are not counted. Before
+ * the reply to a read has its data, the sector's check is made and compared.
+ */
+static double run_serve_read(const struct implementation *code, unsigned times)
+{
+    double spent = 0;
+
+    start(code);
+    write_random(code);
+    build_sector(request, false, LBA, 1);
+    for (unsigned i = 0; i < times; i++) {
+        double from;
+
+        for (uint32_t port = 0; port < SCT_PORTS; port++)
+            take(code, port, request);
+        from = nanoseconds_now();
+        for (uint32_t port = 0; port < SCT_PORTS; port++)
+            serve(code, port);
+        spent += nanoseconds_now() - from;
+        for (uint32_t port = 0; port < SCT_PORTS; port++)
+            give(code, port);
+    }
+    if (reply[R_STATUS] != 0x50) {
+        fprintf(stderr, "a read that is measured is refused\n");
+        exit(1);
+    }
+    return spent / times / SCT_PORTS;
+}
+
+/* The check as W-202 words it, one position after the other. */
+static unsigned check_by_bits(const uint8_t *sector)
+{
+    unsigned check = 0;
+
+    for (unsigned position = 0; position < 8 * SCT_SECTOR_BYTES; position++)
+        if (sector[position / 8] >> position % 8 & 1)
+            check ^= 1u << 12 | position;
+    return check;
+}
+
+static double run_check_by_bits(unsigned times)
+{
+    static volatile unsigned check;     /* the loop must not be optimized away */
+    double from;
+
+    build_random_write(second);
+    from = nanoseconds_now();
+    for (unsigned i = 0; i < times; i++)
+        check = check_by_bits(second + R_SECTOR);
+    (void)check;
+    return (nanoseconds_now() - from) / times;
+}
+
+/* The archive's serve of a read compared with the bit loop alone, in the reference's place. */
+static double run_serve_read_or_bits(const struct implementation *code, unsigned times)
+{
+    return code == &archive ? run_serve_read(code, times) : run_check_by_bits(times);
+}
 
 /* All sectors in calls of n; the key that starts the fill is not counted. */
 static double fill_in_pieces(const struct implementation *code, unsigned times, uint32_t n)
@@ -132,7 +240,8 @@ static double fill_in_pieces(const struct implementation *code, unsigned times, 
         exchange(code, request);
         from = nanoseconds_now();
         for (uint32_t written = 0; written < SECTORS; ) {
-            uint64_t result = code->work(device, sizeof device, area, sizeof area, disk, sizeof disk, n);
+            uint64_t result = code->work(device, sizeof device, area, sizeof area, disk, sizeof disk,
+                                         check_area, sizeof check_area, n);
 
             expect_done(sct_work_answer(result));
             written += sct_work_sectors(result);
@@ -184,14 +293,19 @@ static const struct {
     { "exchange: key, pattern fill",          run_fill_key,     4000 },
     { "exchange: key, fill refused",          run_refused_key,  4000 },
     { "two exchanges: table",                 run_table,        2000 },
+    { "two exchanges: Read Long",             run_long_read,    2000 },
+    { "two exchanges: Write Long",            run_long_write,   2000 },
     { "exchange: sector read",                run_read,         4000 },
     { "exchange: sector write",               run_write,        4000 },
+    { "serve alone: sector read",             run_serve_read,   1000 },
+    { "serve: sector read, beside bit loop",  run_serve_read_or_bits, 1000 },
     { "work, a sector, 4096 in a call",       run_work_all,        2 },
     { "work, a sector, one in a call",        run_work_one,        1 },
     { "work, a sector, beside memcpy",        run_work_or_copies,  2 },
     { "lock",                                 run_lock,         8000 },
     { "set V",                                run_set_visible,  8000 },
     { "sample",                               run_sample,       8000 },
+    { "repair, check equal",                  run_repair,       4000 },
     { "save, first entry",                    run_save_first,   8000 },
     { "save, 117th entry",                    run_save_last,     300 },
     { "power-on, no entry",                   run_power_on_0,   8000 },

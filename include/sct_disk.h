@@ -5,23 +5,30 @@
  * The caller owns all memory. The library has no state of its own, allocates
  * nothing and returns for every input. Of the C library it needs memset.
  *
- *   device   1,024 bytes: the device record. Opaque; power-on writes it first.
- *   area     2,624 bytes: the private area, with four request slots and the
- *            fill sector. Opaque; no core may see it.
- *   disk     1 to 65,536 sectors. Its length at power-on gives the native size
- *            N. The visible size V is 1 to N.
- *   mailbox  528 bytes, one for each port: 16 of registers, then a sector.
- *   image    any length. Its first `used` bytes are saved entries of 560.
+ *   device      1,024 bytes: the device record. Opaque; power-on writes it
+ *               first.
+ *   area        4,672 bytes: the private area, with four request slots and the
+ *               fill sector. Opaque; no core may see it.
+ *   disk        1 to 65,536 sectors. Its length at power-on gives the native
+ *               size N. The visible size V is 1 to N.
+ *   check_area  two bytes for each of the N sectors, its check: bits 0 to 11
+ *               are the exclusive or of the positions (8 times byte plus bit)
+ *               of all one bits of the sector, bit 12 is their parity, the rest
+ *               is 0; low byte first.
+ *   mailbox     1,040 bytes, one for each port: 16 of registers, then two
+ *               sectors, of which only Long Sector Access uses the second.
+ *   image       any length. Its first `used` bytes are saved entries of 560.
  *
  * What the caller guarantees:
  *   - A pointer is valid for as many bytes as its length states. With length 0
  *     it may be NULL. No alignment is needed.
  *   - The buffers of one call do not overlap.
  *   - One call at a time over one record.
- *   - Nobody else writes record, private area and disk, or the image during a
- *     call. The mailbox alone may be rewritten by others during the call:
- *     sct_take copies it once into the port's slot, and everything after goes
- *     by the slot; sct_give only writes it. No other function has a mailbox.
+ *   - Nobody else writes record, private area, disk and check area, or the
+ *     image during a call. The mailbox alone may be rewritten by others during
+ *     the call: sct_take copies it once into the port's slot, and everything
+ *     after goes by the slot; sct_give only writes it. No other function has a
+ *     mailbox.
  *
  * All else is judged here: any port, number and length, and any bytes. Where
  * the answer is not 0, no byte of any buffer has changed.
@@ -67,9 +74,11 @@ extern "C" {
 
 #define SCT_PORTS            4u      /* ports are 0 to 3 */
 #define SCT_SECTOR_BYTES     512u
+#define SCT_CHECK_BYTES      2u      /* of a sector, in the check area */
 #define SCT_REGISTER_BYTES   16u
-#define SCT_MAILBOX_BYTES    528u    /* registers, then a sector */
-#define SCT_PRIVATE_BYTES    2624u   /* four slots, then the fill sector */
+#define SCT_DATA_BYTES       1024u   /* two sectors */
+#define SCT_MAILBOX_BYTES    1040u   /* registers, then data */
+#define SCT_PRIVATE_BYTES    4672u   /* four slots, then the fill sector */
 #define SCT_RECORD_BYTES     1024u
 #define SCT_ENTRY_BYTES      560u    /* one saved entry */
 #define SCT_ENTRIES_LIMIT    117u
@@ -85,7 +94,7 @@ enum sct_answer {
     SCT_BAD_LENGTH = 2,  /* a buffer is not of its size, or used exceeds it */
     SCT_BAD_STAGE  = 3,  /* the slot is not in the stage that the step needs */
     SCT_BAD_RECORD = 4,  /* the record is unsound; so is one of another size */
-    SCT_BAD_VALUE  = 5,  /* the V asked for is 0 or above N */
+    SCT_BAD_VALUE  = 5,  /* set V: V is 0 or above N; repair: the LBA is not below V */
     SCT_BAD_IMAGE  = 6,  /* the image, or its used length, is not readable */
     SCT_OTHER_DISK = 7,  /* the newest entry is of a disk of another N */
     SCT_IMAGE_FULL = 8   /* the image has 117 entries, or no 560 bytes more */
@@ -106,17 +115,22 @@ uint32_t SCT_CALL sct_take(uint8_t *device, size_t device_length,
 /*
  * Carries out the request in the slot and leaves the reply there: held becomes
  * answered. A request that the disk refuses (Status 51h) is served: answer 0.
- * Refusals: 4; 2 private area, disk not N sectors; 1; 3 slot not held.
+ * So is a sector read (24h) of a sector whose check bytes are not those of its
+ * data: its reply has Error 40h and no data. Read Long sends the sector and its
+ * check bytes as they are.
+ * Refusals: 4; 2 private area, disk not N sectors, check area not 2 N bytes; 1;
+ * 3 slot not held.
  * Changes: the record; this slot, and the fill sector where a fill begins; for
- * a sector write (34h) one sector below V.
+ * a sector write (34h) and Write Long one sector below V and its check bytes.
  */
 uint32_t SCT_CALL sct_serve(uint8_t *device, size_t device_length,
                             uint32_t port,
                             uint8_t *area, size_t area_length,
-                            uint8_t *disk, size_t disk_length);
+                            uint8_t *disk, size_t disk_length,
+                            uint8_t *check_area, size_t check_area_length);
 
 /*
- * Writes the reply, all 528 bytes, to the mailbox: answered becomes empty.
+ * Writes the reply, all 1,040 bytes, to the mailbox: answered becomes empty.
  * Refusals: 4; 2 mailbox, private area; 1; 3 slot not answered.
  * Changes: the record and the mailbox.
  */
@@ -131,12 +145,14 @@ uint32_t SCT_CALL sct_give(uint8_t *device, size_t device_length,
  * Writes the next sectors of a running fill, as many as n and what is left
  * allow; with no fill none. The result has the answer in bits 32 to 63 and the
  * number of sectors written in bits 0 to 31 (0 where the answer is not 0).
- * Refusals: 4; 2 private area, disk not N sectors.
- * Changes: the record, and the sectors written, all below V.
+ * Refusals: 4; 2 private area, disk not N sectors, check area not 2 N bytes.
+ * Changes: the record, and the sectors written with their check bytes, all
+ * below V.
  */
 uint64_t SCT_CALL sct_work(uint8_t *device, size_t device_length,
                            const uint8_t *area, size_t area_length,
                            uint8_t *disk, size_t disk_length,
+                           uint8_t *check_area, size_t check_area_length,
                            uint32_t n);
 
 static inline uint32_t sct_work_answer(uint64_t result)
@@ -175,6 +191,35 @@ uint32_t SCT_CALL sct_set_visible(uint8_t *device, size_t device_length, uint64_
 uint32_t SCT_CALL sct_sample(uint8_t *device, size_t device_length, uint8_t reading);
 
 /*
+ * Compares the check of a sector below V with its check bytes, and flips a bit
+ * back. The result has the answer in bits 32 to 63 and the report in bits 0 to
+ * 31 (0 where the answer is not 0):
+ *   0  they are equal
+ *   1  they differ in bit 12 and not in bits 13 to 15, as after one flipped bit
+ *      of the data: the bit at the position in which bits 0 to 11 differ was
+ *      flipped, and the Segment Initialized flag cleared
+ *   2  they differ otherwise: the sector stays as it was
+ * Whatever the report, it stops a running fill and drops a pending transfer.
+ * The lock does not matter.
+ * Refusals: 4; 2 disk not N sectors, check area not 2 N bytes; 5.
+ * Changes: the record; for report 1 one bit of the sector.
+ */
+uint64_t SCT_CALL sct_repair(uint8_t *device, size_t device_length,
+                             uint8_t *disk, size_t disk_length,
+                             const uint8_t *check_area, size_t check_area_length,
+                             uint64_t lba);
+
+static inline uint32_t sct_repair_answer(uint64_t result)
+{
+    return (uint32_t)(result >> 32);
+}
+
+static inline uint32_t sct_repair_report(uint64_t result)
+{
+    return (uint32_t)(result & 0xFFFFFFFFu);
+}
+
+/*
  * Adds one entry to the image, after its used length. After answer 0 the used
  * length is used + 560; it is not returned, and the caller keeps it.
  * Refusals: 4; 2 used exceeds the image; 6; 7; 8.
@@ -185,15 +230,16 @@ uint32_t SCT_CALL sct_save(const uint8_t *device, size_t device_length,
 
 /*
  * Starts the device from the newest entry of the image; with used 0 as a new
- * disk, with V = N. What the record held is not judged. Of the disk only the
- * length is used.
- * Refusals: 2 record, private area, disk not 1 to 65,536 whole sectors, used
- * exceeds the image; 6; 7.
+ * disk, with V = N. What the record held is not judged. Of disk and check area
+ * only the lengths are used: check bytes are neither judged nor computed.
+ * Refusals: 2 record, private area, disk not 1 to 65,536 whole sectors, check
+ * area not two bytes for each, used exceeds the image; 6; 7.
  * Changes: the record, and the private area, which becomes zeros.
  */
 uint32_t SCT_CALL sct_power_on(uint8_t *device, size_t device_length,
                                uint8_t *area, size_t area_length,
                                const uint8_t *disk, size_t disk_length,
+                               const uint8_t *check_area, size_t check_area_length,
                                const uint8_t *image, size_t image_length, uint64_t used);
 
 #ifdef __cplusplus

@@ -1,5 +1,5 @@
 /*
- * ms.c - the ten entries, called from a file with another calling convention.
+ * ms.c - the eleven entries, called from a file with another calling convention.
  *
  * It is compiled with -mabi=ms, as firmware of the UEFI kind is. The header's
  * SCT_CALL must make every call one of the System V convention; main carries
@@ -14,11 +14,12 @@
 /* Does not compile where this file has the same convention, as then nothing would be tried. */
 typedef char other_convention[__builtin_types_compatible_p(int (void), int SCT_CALL (void)) ? -1 : 1];
 
-enum { NATIVE = 8, VISIBLE = 6, PORT = 2, COUNT = 2, COMMAND = 11, STATUS = 12, LOCKED = 16, NOW = 40 };
+enum { NATIVE = 8, VISIBLE = 6, PORT = 2, COUNT = 2, COMMAND = 11, STATUS = 12, ERROR = 13, LOCKED = 16, NOW = 40 };
 
 static uint8_t device[SCT_RECORD_BYTES];
 static uint8_t area[SCT_PRIVATE_BYTES];
 static uint8_t disk[NATIVE * SCT_SECTOR_BYTES];
+static uint8_t check_area[NATIVE * SCT_CHECK_BYTES];
 static uint8_t mailbox[SCT_MAILBOX_BYTES];
 static uint8_t image[SCT_ENTRY_BYTES];
 
@@ -32,7 +33,7 @@ static int check_owner_steps(void)
 {
     area[0] = area[sizeof area - 1] = 0xA5;
     CHECK(1, sct_power_on(device, sizeof device, area, sizeof area, disk, sizeof disk,
-                          image, sizeof image, 0) == SCT_DONE);
+                          check_area, sizeof check_area, image, sizeof image, 0) == SCT_DONE);
     CHECK(2, device[0] == NATIVE && area[0] == 0 && area[sizeof area - 1] == 0);
     CHECK(3, sct_lock(device, sizeof device) == SCT_DONE && device[LOCKED] == 1);
     CHECK(4, sct_unlock(device, sizeof device) == SCT_DONE && device[LOCKED] == 0);
@@ -44,22 +45,54 @@ static int check_owner_steps(void)
     return 0;
 }
 
-/* A sector read, then work without a fill. */
+static uint32_t serve(void)
+{
+    return sct_serve(device, sizeof device, PORT, area, sizeof area, disk, sizeof disk, check_area, sizeof check_area);
+}
+
+/* A sector read, without and with the check bytes of its data; then work without a fill. */
 static int check_request(void)
 {
     uint64_t result;
 
     mailbox[COMMAND] = 0x24;
     mailbox[COUNT] = 1;
-    disk[0] = 0x5A;
+    disk[0] = 0x07;                 /* bits 0, 1 and 2: the check is 1003h */
     CHECK(10, sct_take(device, sizeof device, PORT, mailbox, sizeof mailbox, area, sizeof area) == SCT_DONE);
-    CHECK(11, sct_serve(device, sizeof device, PORT, area, sizeof area, disk, sizeof disk) == SCT_DONE);
+    CHECK(11, serve() == SCT_DONE);
     CHECK(12, sct_give(device, sizeof device, PORT, mailbox, sizeof mailbox, area, sizeof area) == SCT_DONE);
-    CHECK(13, mailbox[STATUS] == 0x50 && mailbox[SCT_REGISTER_BYTES] == 0x5A);
-    result = sct_work(device, sizeof device, area, sizeof area, disk, sizeof disk, 3);
-    CHECK(14, sct_work_answer(result) == SCT_DONE && sct_work_sectors(result) == 0);
-    result = sct_work(device, sizeof device, area, sizeof area, disk, sizeof disk - 1, 3);
-    CHECK(15, sct_work_answer(result) == SCT_BAD_LENGTH && sct_work_sectors(result) == 0);
+    CHECK(13, mailbox[STATUS] == 0x51 && mailbox[ERROR] == 0x40 && mailbox[SCT_REGISTER_BYTES] == 0);
+    mailbox[COMMAND] = 0x24;
+    mailbox[COUNT] = 1;
+    check_area[0] = 0x03;
+    check_area[1] = 0x10;
+    CHECK(14, sct_take(device, sizeof device, PORT, mailbox, sizeof mailbox, area, sizeof area) == SCT_DONE);
+    CHECK(15, serve() == SCT_DONE);
+    CHECK(16, sct_give(device, sizeof device, PORT, mailbox, sizeof mailbox, area, sizeof area) == SCT_DONE);
+    CHECK(17, mailbox[STATUS] == 0x50 && mailbox[SCT_REGISTER_BYTES] == 0x07);
+    result = sct_work(device, sizeof device, area, sizeof area, disk, sizeof disk, check_area, sizeof check_area, 3);
+    CHECK(18, sct_work_answer(result) == SCT_DONE && sct_work_sectors(result) == 0);
+    result = sct_work(device, sizeof device, area, sizeof area, disk, sizeof disk, check_area, sizeof check_area - 1, 3);
+    CHECK(19, sct_work_answer(result) == SCT_BAD_LENGTH && sct_work_sectors(result) == 0);
+    return 0;
+}
+
+static uint64_t repair(uint64_t lba)
+{
+    return sct_repair(device, sizeof device, disk, sizeof disk, check_area, sizeof check_area, lba);
+}
+
+/* The sector that was read is right; then a bit of it flips. */
+static int check_repair(void)
+{
+    uint64_t result = repair(0);
+
+    CHECK(20, sct_repair_answer(result) == SCT_DONE && sct_repair_report(result) == 0);
+    disk[1] = 0x04;
+    result = repair(0);
+    CHECK(21, sct_repair_answer(result) == SCT_DONE && sct_repair_report(result) == 1 && disk[1] == 0);
+    result = repair((uint64_t)1 << 32);
+    CHECK(22, sct_repair_answer(result) == SCT_BAD_VALUE && sct_repair_report(result) == 0);
     return 0;
 }
 
@@ -67,5 +100,7 @@ int SCT_CALL main(void)
 {
     int failed = check_owner_steps();
 
-    return failed != 0 ? failed : check_request();
+    if (failed == 0)
+        failed = check_request();
+    return failed != 0 ? failed : check_repair();
 }

@@ -22,7 +22,7 @@ enum { NOWHERE = 0xFFFF, HISTORY_SIZE = 478 };
     HELD("port " #p " stage", (at), slot[p].stage),                                                 \
     HELD("port " #p " pending transfer", (at) + 1, slot[p].pending),                                \
     FIXED("port " #p " spare", (at) + 2, 6),                                                        \
-    HELD("port " #p " fill first", (at) + 8, slot[p].first),                                        \
+    HELD("port " #p " fill first or LBA", (at) + 8, slot[p].first),                                 \
     HELD("port " #p " fill end", (at) + 16, slot[p].end)
 
 static const struct field fields[] = {
@@ -167,7 +167,7 @@ static void random_activity(struct random *r, struct record_fields *f)
     uint64_t end = between(r, first + 1, f->visible);
     struct slot_fields *slot = &f->slot[below(r, 4)];
 
-    switch (below(r, 4)) {
+    switch (below(r, 5)) {
     case 0:
         f->filling = 1;
         f->code = 0xFFFF;
@@ -182,6 +182,10 @@ static void random_activity(struct random *r, struct record_fields *f)
         slot->pending = PENDING_FILL;
         slot->first = first;
         slot->end = end;
+        break;
+    case 3:
+        slot->pending = once_in(r, 2) ? PENDING_LONG_READ : PENDING_LONG_WRITE;
+        slot->first = first;
         break;
     default:
         break;
@@ -229,13 +233,21 @@ static uint64_t limit_of_sectors(struct random *r, const struct record_fields *f
     return limit + below(r, 3) - 1;
 }
 
+/* Half of the time the one with the pending transfer, if there is one. */
+static struct slot_fields *any_slot(struct random *r, struct record_fields *f)
+{
+    int port = pending_port(f);
+
+    return port >= 0 && once_in(r, 2) ? &f->slot[port] : &f->slot[below(r, 4)];
+}
+
 void spoil_record(struct random *r, uint8_t *record)
 {
     struct record_fields f;
     struct slot_fields *slot;
 
     decode_record(&f, record);
-    slot = &f.slot[below(r, 4)];
+    slot = any_slot(r, &f);
     switch (below(r, 16)) {
     case 0:  f.native = limit_of_sectors(r, &f); break;
     case 1:  f.visible = limit_of_sectors(r, &f); break;
@@ -245,7 +257,7 @@ void spoil_record(struct random *r, uint8_t *record)
     case 5:  f.end = limit_of_sectors(r, &f); break;
     case 6:  slot->first = limit_of_sectors(r, &f); break;
     case 7:  slot->end = limit_of_sectors(r, &f); break;
-    case 8:  slot->pending = (uint8_t)below(r, 5); break;
+    case 8:  slot->pending = (uint8_t)below(r, 7); break;
     case 9:  f.filling = (uint8_t)below(r, 3); break;
     case 10: f.code = (uint16_t)(0xFFFF - below(r, 2)); break;
     case 11: f.read_timer = (uint16_t)below(r, 12); break;

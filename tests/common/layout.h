@@ -14,11 +14,11 @@
 #include "random.h"
 
 enum { STAGE_EMPTY, STAGE_HELD, STAGE_ANSWERED };
-enum { PENDING_NONE, PENDING_TABLE, PENDING_FILL };
+enum { PENDING_NONE, PENDING_TABLE, PENDING_FILL, PENDING_LONG_READ, PENDING_LONG_WRITE };
 
 struct slot_fields {
     uint8_t  stage, pending;
-    uint64_t first, end;
+    uint64_t first, end;        /* of a fill; first is the LBA of a Long transfer */
 };
 
 struct record_fields {

@@ -61,6 +61,12 @@ void build_fill(uint8_t *mailbox, enum form form, uint16_t function,
     put32(key + 20, pattern);
 }
 
+void build_long(uint8_t *mailbox, enum form form, uint16_t function, uint64_t lba)
+{
+    build_key(mailbox, form, 1, function, 0, 0, 0);
+    put64(mailbox + R_SECTOR + 4, lba);
+}
+
 uint16_t reply_value(const uint8_t *mailbox)
 {
     return (uint16_t)(mailbox[R_COUNT] | mailbox[R_LOW] << 8);

@@ -5,14 +5,17 @@ import sys
 
 
 def mailbox(draw):
-    """Registers and a sector: often a good key, status or sector command, now and then any bytes."""
-    kind = draw.randrange(8)
-    registers, sector = bytearray(16), bytearray(512)
+    """Registers and two sectors: often a good key, status or sector command, now and then any bytes."""
+    kind = draw.choice([0, 1, 2, 3, 4, 4, 4, 5, 6, 7])
+    registers, sector, second = bytearray(16), bytearray(512), draw.randbytes(512)
     if kind < 3:
         registers[0], registers[2], registers[4] = 0xD6, 1, 0xE0
-        action = draw.choice([1, 2, 2, 2, 3, 4, 5])
+        action = draw.choice([1, 1, 1, 2, 2, 2, 3, 4, 5, 6])
         words = [action, draw.choice([0, 1, 1, 2, 3]), draw.randrange(4), draw.randrange(12), draw.randrange(3)]
-        if action == 2:
+        if action == 1:
+            sector[4:12] = draw.randrange(66).to_bytes(8, "little")
+            words = words[:2]
+        elif action == 2:
             sector[4:12] = draw.randrange(66).to_bytes(8, "little")
             sector[12:20] = draw.randrange(66).to_bytes(8, "little")
             sector[20:24] = draw.randbytes(4)
@@ -31,7 +34,7 @@ def mailbox(draw):
         sector[:] = draw.randbytes(512)
     else:
         registers[:], sector[:] = draw.randbytes(16), draw.randbytes(512)
-    return bytes(registers + sector)
+    return bytes(registers + sector + second)
 
 
 def main():

@@ -92,7 +92,9 @@ static void print_outcome(const struct pair *pair, const struct step *step, uint
     printf("%5llu  ", (unsigned long long)number);
     print_step(stdout, step, pair->sectors);
     if (step->entry == WORK)
-        printf(" -> %u, %u sectors\n", outcome->answer, outcome->sectors);
+        printf(" -> %u, %u sectors\n", outcome->answer, outcome->report);
+    else if (step->entry == REPAIR)
+        printf(" -> %u, report %u\n", outcome->answer, outcome->report);
     else if (step->entry < ENTRIES)
         printf(" -> %u\n", outcome->answer);
     else
@@ -175,7 +177,7 @@ static bool run_sweeps(struct pair *pair, struct statistics *s, const struct opt
     if (!o->sweeps || o->one_list)
         return true;
     return sweep_lengths(pair, s) && sweep_chain(pair, s) && sweep_addresses(pair, s) &&
-           sweep_images(pair, s, o->thorough) && sweep_records(pair, s, o->thorough);
+           sweep_flips(pair, s) && sweep_images(pair, s, o->thorough) && sweep_records(pair, s, o->thorough);
 }
 
 /* ---- Options --------------------------------------------------------------------- */

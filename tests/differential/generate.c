@@ -3,6 +3,7 @@
 #include <string.h>
 
 #include "bytes.h"
+#include "check.h"
 #include "layout.h"
 #include "request.h"
 
@@ -179,6 +180,22 @@ static void any_table(struct random *r, uint8_t *mailbox)
     build_key(mailbox, form, 5, function, table, odd_word(r), 0);
 }
 
+/* A visible sector mostly, or a number near a limit, or one that is right in its low bits only. */
+static uint64_t any_lba_of_64_bits(struct random *r, const struct record_fields *f)
+{
+    uint64_t lba = once_in(r, 5) ? near_limit(r, f) : below(r, f->visible);
+
+    return once_in(r, 8) ? lba | (uint64_t)1 << between(r, 16, 63) : lba;
+}
+
+static void any_long(struct random *r, const struct record_fields *f, uint8_t *mailbox)
+{
+    enum form form = any_form(r);
+    uint16_t function = mostly(r, (uint16_t)between(r, 1, 2));
+
+    build_long(mailbox, form, function, any_lba_of_64_bits(r, f));
+}
+
 static void other_key(struct random *r, uint8_t *mailbox)
 {
     uint16_t words[5];
@@ -189,18 +206,27 @@ static void other_key(struct random *r, uint8_t *mailbox)
     build_key(mailbox, form, words[0], words[1], words[2], words[3], words[4]);
 }
 
-static uint16_t any_transfer_count(struct random *r)
+/* Mostly the right one. */
+static uint16_t any_transfer_count(struct random *r, uint16_t right)
 {
-    static const uint16_t counts[] = { 0, 2, 255, 256, 257, 65535 };
+    static const uint16_t counts[] = { 0, 1, 2, 3, 255, 256, 257, 258, 65535 };
 
-    return once_in(r, 6) ? PICK(r, counts) : 1;
+    return once_in(r, 6) ? PICK(r, counts) : right;
 }
 
-static void any_transfer(struct random *r, bool write, uint8_t *mailbox)
+static void any_transfer(struct random *r, bool write, uint16_t right, uint8_t *mailbox)
 {
     enum form form = any_form(r);
 
-    build_log(mailbox, form, write, 0xE1, any_transfer_count(r));
+    build_log(mailbox, form, write, 0xE1, any_transfer_count(r, right));
+}
+
+/* The count that the pending transfer wants. */
+static uint16_t pending_count(const struct record_fields *f)
+{
+    int port = pending_port(f);
+
+    return port >= 0 && f->slot[port].pending >= PENDING_LONG_READ ? 2 : 1;
 }
 
 /* A status read or a key whose count may be wrong. */
@@ -209,7 +235,7 @@ static void any_count_of_e0(struct random *r, uint8_t *mailbox)
     enum form form = any_form(r);
     bool write = once_in(r, 2);
 
-    build_log(mailbox, form, write, 0xE0, any_transfer_count(r));
+    build_log(mailbox, form, write, 0xE0, any_transfer_count(r, 1));
 }
 
 static void any_sector(struct random *r, const struct record_fields *f, uint8_t *mailbox)
@@ -219,7 +245,7 @@ static void any_sector(struct random *r, const struct record_fields *f, uint8_t 
 
     if (once_in(r, 6))      /* right in its low bits only */
         lba |= (uint64_t)1 << between(r, 16, 47);
-    build_sector(mailbox, write, lba, any_transfer_count(r));
+    build_sector(mailbox, write, lba, any_transfer_count(r, 1));
 }
 
 static void any_command(struct random *r, uint8_t *mailbox)
@@ -232,7 +258,7 @@ static void any_command(struct random *r, uint8_t *mailbox)
     bool write = once_in(r, 2);
     uint8_t log = once_in(r, 2) ? 0xE0 : 0xE1;
 
-    build_log(mailbox, form, write, log, any_transfer_count(r));
+    build_log(mailbox, form, write, log, any_transfer_count(r, 1));
     mailbox[R_COMMAND] = once_in(r, 3) ? (uint8_t)random64(r) : PICK(r, commands);
 }
 
@@ -269,7 +295,7 @@ static void any_request(struct list *l, uint8_t *mailbox)
     struct record_fields f;
 
     fields_now(l, &f);
-    switch (below(r, 24)) {
+    switch (below(r, 26)) {
     case 0:
     case 1:
     case 2:  build_status(mailbox, any_form(r)); break;
@@ -285,14 +311,16 @@ static void any_request(struct list *l, uint8_t *mailbox)
     case 12: any_feature(r, mailbox); break;
     case 13: any_table(r, mailbox); break;
     case 14: other_key(r, mailbox); break;
-    case 15: any_transfer(r, false, mailbox); break;
+    case 15: any_transfer(r, false, pending_count(&f), mailbox); break;
     case 16:
-    case 17: any_transfer(r, true, mailbox); break;
+    case 17: any_transfer(r, true, pending_count(&f), mailbox); break;
     case 18:
     case 19:
     case 20:
     case 21: any_sector(r, &f, mailbox); break;
     case 22: any_command(r, mailbox); break;
+    case 23:
+    case 24: any_long(r, &f, mailbox); break;
     default: random_bytes(r, mailbox, SCT_MAILBOX_BYTES); break;
     }
     dress(r, mailbox);
@@ -304,16 +332,18 @@ static void any_request(struct list *l, uint8_t *mailbox)
 
 static void plan_work(struct list *l);
 static void plan_sample(struct list *l);
+static void repair(struct list *l);
 
 /* Something that another core or the owner does in between. */
 static void maybe_between(struct list *l)
 {
     if (!once_in(&l->random, 16))
         return;
-    if (once_in(&l->random, 2))
-        plan_work(l);
-    else
-        plan_sample(l);
+    switch (below(&l->random, 3)) {
+    case 0:  plan_work(l); break;
+    case 1:  plan_sample(l); break;
+    default: repair(l); break;
+    }
 }
 
 static void exchange(struct list *l, uint32_t port, const uint8_t *mailbox)
@@ -392,6 +422,8 @@ static void plan_lock(struct list *l)
     add(l, LOCK);
     for (uint64_t i = below(r, 4); i > 0; i--)
         plan_exchange(l);
+    if (once_in(r, 4))
+        repair(l);
     if (once_in(r, 4))
         add(l, LOCK);
     if (!once_in(r, 8))
@@ -506,13 +538,20 @@ static void plan_used(struct list *l)
         add(l, USE_LENGTH)->used = once_in(r, 2) || used < 560 ? 0 : used - 560;
 }
 
+/* A disk of so many sectors, with a check area that is right for it. */
+static void pass_disk_of(struct step *step, uint64_t sectors)
+{
+    step->length[DISK] = right_length(DISK, sectors);
+    step->length[CHECK_AREA] = right_length(CHECK_AREA, sectors);
+}
+
 /* A power-on with a disk of another size, and the way back. */
 static void plan_other_disk(struct list *l)
 {
     struct random *r = &l->random;
     struct step *step = add(l, POWER_ON);
 
-    step->length[DISK] = (size_t)(any_native(l) * SCT_SECTOR_BYTES);
+    pass_disk_of(step, any_native(l));
     if (once_in(r, 2))
         set_used(step, 0);
     plan_exchange(l);
@@ -520,6 +559,81 @@ static void plan_other_disk(struct list *l)
     step = add(l, POWER_ON);
     if (!once_in(r, 2))
         set_used(step, 0);
+}
+
+/* ---- Plans: wrong bits ----------------------------------------------------------- */
+
+static void flip_bits(struct list *l, uint64_t lba, uint64_t flips)
+{
+    for (; flips > 0; flips--) {
+        struct step *step = add(l, FLIP_BIT);
+
+        step->offset = (size_t)lba;
+        step->bit = (uint16_t)random_bit(&l->random);
+    }
+}
+
+/* A sector of the disk: mostly a visible one, else one at or after V, if there is one. */
+static uint64_t any_lba(struct list *l)
+{
+    struct record_fields f;
+    uint64_t lba;
+
+    fields_now(l, &f);
+    lba = once_in(&l->random, 5) ? f.visible + below(&l->random, 2) : below(&l->random, f.visible);
+    return lba < l->pair->sectors ? lba : 0;
+}
+
+static void exchange_sector(struct list *l, bool write, uint64_t lba)
+{
+    uint8_t mailbox[SCT_MAILBOX_BYTES];
+
+    build_sector(mailbox, write, lba, 1);
+    dress(&l->random, mailbox);
+    exchange(l, free_port(l), mailbox);
+}
+
+/* Bits of a sector flip; it is read, sometimes written and read again. */
+static void plan_flips(struct list *l)
+{
+    uint64_t lba = any_lba(l);
+
+    flip_bits(l, lba, below(&l->random, 4));
+    exchange_sector(l, false, lba);
+    if (once_in(&l->random, 2)) {
+        exchange_sector(l, true, lba);
+        exchange_sector(l, false, lba);
+    }
+}
+
+static void repair_at(struct list *l, uint64_t lba)
+{
+    add(l, REPAIR)->lba = lba;
+}
+
+/* Any sector is repaired, or one that there is not. */
+static void repair(struct list *l)
+{
+    struct record_fields f;
+
+    fields_now(l, &f);
+    repair_at(l, any_lba_of_64_bits(&l->random, &f));
+}
+
+/* Bits of a sector flip, then it is repaired, sometimes again, and read. */
+static void plan_repair(struct list *l)
+{
+    struct random *r = &l->random;
+    uint64_t lba = any_lba(l);
+
+    flip_bits(l, lba, below(r, 4));
+    repair_at(l, lba);
+    if (once_in(r, 3))
+        repair_at(l, lba);
+    if (once_in(r, 2))
+        exchange_sector(l, false, lba);
+    if (once_in(r, 2))
+        repair(l);
 }
 
 /* ---- Plans: records ------------------------------------------------------------ */
@@ -582,7 +696,7 @@ static void work_by(struct list *l, uint32_t n)
 /* What may happen to a fill or a pending transfer. */
 static void plan_disturbance(struct list *l)
 {
-    switch (below(&l->random, 9)) {
+    switch (below(&l->random, 12)) {
     case 0:  plan_visible(l); break;
     case 1:  plan_lock(l); break;
     case 2:  add(l, UNLOCK); break;
@@ -590,6 +704,8 @@ static void plan_disturbance(struct list *l)
     case 4:  plan_save(l); break;
     case 5:  plan_sample(l); break;
     case 6:  status_by(l, (uint32_t)below(&l->random, SCT_PORTS)); break;
+    case 7:  repair(l); break;
+    case 8:  plan_repair(l); break;
     default: plan_exchange(l); break;
     }
 }
@@ -625,6 +741,98 @@ static void plan_fill(struct list *l)
     status_by(l, port + 1);
 }
 
+/* The right check behind the sector, or one that is wrong in a few bits: what Write Long stores. */
+static void put_check(struct random *r, uint8_t *mailbox)
+{
+    put16(mailbox + R_CHECK, sector_check(mailbox + R_SECTOR));
+    for (uint64_t flips = below(r, 3); flips > 0; flips--)
+        flip_bit(mailbox + R_SECTOR, mailbox + R_CHECK, 0, random_bit(r));
+}
+
+/* An E1h that collects a transfer: now and then by a wrong port, or the wrong way. */
+static void collect_once(struct list *l, uint32_t port, bool write, uint16_t count)
+{
+    struct random *r = &l->random;
+    uint8_t mailbox[SCT_MAILBOX_BYTES];
+
+    if (once_in(r, 6))
+        port = (port + 1) % SCT_PORTS;
+    if (once_in(r, 8))
+        write = !write;
+    any_transfer(r, write, count, mailbox);
+    dress(r, mailbox);
+    if (once_in(r, 2))
+        put_check(r, mailbox);
+    exchange(l, port, mailbox);
+}
+
+/* A transfer is collected, and sometimes again, when nothing is pending any more. */
+static void collect(struct list *l, uint32_t port, bool write, uint16_t count)
+{
+    collect_once(l, port, write, count);
+    if (once_in(&l->random, 3))
+        collect_once(l, port, write, count);
+}
+
+static void plan_sector_fill(struct list *l)
+{
+    struct random *r = &l->random;
+    uint32_t port = ask_fill(l, 2);
+
+    if (once_in(r, 2))
+        plan_disturbance(l);
+    collect(l, port, true, 1);
+    work_by(l, (uint32_t)between(r, 0, 4));
+    status_by(l, port);
+    if (once_in(r, 2))
+        work_by(l, 0xFFFFFFFF);
+}
+
+static void plan_table(struct list *l)
+{
+    struct random *r = &l->random;
+    uint8_t mailbox[SCT_MAILBOX_BYTES];
+    uint32_t port = free_port(l);
+
+    build_key(mailbox, SMART, 5, 1, 2, odd_word(r), 0);
+    exchange(l, port, mailbox);
+    plan_sample(l);
+    if (once_in(r, 3))
+        plan_disturbance(l);
+    collect(l, port, false, 1);
+}
+
+/*
+ * A sector is read or written by a Long transfer. Between key and transfer its
+ * bits may flip, which drops nothing. Then it is read, repaired, or asked for
+ * again.
+ */
+static void plan_long(struct list *l)
+{
+    struct random *r = &l->random;
+    uint8_t mailbox[SCT_MAILBOX_BYTES];
+    uint64_t lba = any_lba(l);
+    uint32_t port = free_port(l);
+    bool write = once_in(r, 2);
+
+    build_long(mailbox, any_form(r), write ? 2 : 1, lba);
+    dress(r, mailbox);
+    exchange(l, port, mailbox);
+    flip_bits(l, lba, below(r, 3));
+    if (once_in(r, 4))
+        plan_disturbance(l);
+    collect(l, port, write, 2);
+    if (once_in(r, 2))
+        exchange_sector(l, false, lba);
+    if (once_in(r, 2))
+        repair_at(l, lba);
+    if (once_in(r, 3)) {
+        build_long(mailbox, any_form(r), 1, lba);
+        exchange(l, port, mailbox);
+        collect(l, port, false, 2);
+    }
+}
+
 /* The whole visible disk is filled, or all but its last sector; then something that may clear the flag. */
 static void plan_whole_fill(struct list *l)
 {
@@ -646,7 +854,7 @@ static void plan_whole_fill(struct list *l)
         work_by(l, (uint32_t)(f.visible - 1));
     work_by(l, 0xFFFFFFFF);
     status_by(l, port + 1);
-    switch (below(r, 4)) {
+    switch (below(r, 6)) {
     case 0:
         build_sector(mailbox, true, below(r, f.visible + 1), 1);
         dress(r, mailbox);
@@ -659,6 +867,12 @@ static void plan_whole_fill(struct list *l)
         add(l, SAVE);
         add(l, POWER_ON);
         break;
+    case 3:
+        plan_repair(l);
+        break;
+    case 4:
+        plan_long(l);
+        break;
     default:
         any_fill(r, &f, mailbox);
         exchange(l, port, mailbox);
@@ -666,57 +880,6 @@ static void plan_whole_fill(struct list *l)
         break;
     }
     status_by(l, port);
-}
-
-/* An E1h that collects a transfer: now and then by a wrong port, or the wrong way. */
-static void collect_once(struct list *l, uint32_t port, bool write)
-{
-    struct random *r = &l->random;
-    uint8_t mailbox[SCT_MAILBOX_BYTES];
-
-    if (once_in(r, 6))
-        port = (port + 1) % SCT_PORTS;
-    if (once_in(r, 8))
-        write = !write;
-    any_transfer(r, write, mailbox);
-    dress(r, mailbox);
-    exchange(l, port, mailbox);
-}
-
-/* A transfer is collected, and sometimes again, when nothing is pending any more. */
-static void collect(struct list *l, uint32_t port, bool write)
-{
-    collect_once(l, port, write);
-    if (once_in(&l->random, 3))
-        collect_once(l, port, write);
-}
-
-static void plan_sector_fill(struct list *l)
-{
-    struct random *r = &l->random;
-    uint32_t port = ask_fill(l, 2);
-
-    if (once_in(r, 2))
-        plan_disturbance(l);
-    collect(l, port, true);
-    work_by(l, (uint32_t)between(r, 0, 4));
-    status_by(l, port);
-    if (once_in(r, 2))
-        work_by(l, 0xFFFFFFFF);
-}
-
-static void plan_table(struct list *l)
-{
-    struct random *r = &l->random;
-    uint8_t mailbox[SCT_MAILBOX_BYTES];
-    uint32_t port = free_port(l);
-
-    build_key(mailbox, SMART, 5, 1, 2, odd_word(r), 0);
-    exchange(l, port, mailbox);
-    plan_sample(l);
-    if (once_in(r, 3))
-        plan_disturbance(l);
-    collect(l, port, false);
 }
 
 /* An interval is set, a history grows, is saved, and comes back or does not. */
@@ -758,6 +921,9 @@ static const struct {
     { plan_damage,      {  1,  0,  0,  0, 10,  0,  2,  0 } },
     { plan_used,        {  1,  0,  0,  0,  4,  0,  4,  0 } },
     { plan_other_disk,  {  1,  0,  0,  0,  2,  0,  2,  0 } },
+    { plan_flips,       {  4,  2,  4,  0,  0,  1,  2,  4 } },
+    { plan_repair,      {  3,  3,  3,  0,  0,  2,  2,  4 } },
+    { plan_long,        {  4,  2, 14,  0,  0,  2,  3,  5 } },
     { plan_new_record,  {  1,  0,  0,  1,  1,  1,  1, 12 } },
     { plan_edit_record, {  0,  0,  0,  0,  0,  0,  1,  6 } },
     { plan_spoilt,      {  0,  0,  0,  0,  0,  0,  0,  6 } },
@@ -791,18 +957,34 @@ static void plan(struct list *l)
 
 static size_t wrong_length(struct random *r, size_t right, size_t most)
 {
-    const size_t lengths[] = { 0, 0, 1, right - 1, right + 1, right / 2, 2 * right, right - 512, right + 512 };
+    const size_t lengths[] = {
+        0, 0, 1, right - 1, right + 1, right / 2, 2 * right, right - SCT_SECTOR_BYTES, right + SCT_SECTOR_BYTES
+    };
     size_t length = PICK(r, lengths);
 
     return length <= most ? length : 0;
 }
 
+/* Half of the time the check area is right for the wrong disk. */
 static void wrong_disk(struct list *l, struct step *step)
 {
-    const size_t most = ((size_t)SCT_NATIVE_LIMIT + 1) * SCT_SECTOR_BYTES;
+    const size_t most = right_length(DISK, SCT_NATIVE_LIMIT + 1);
 
     step->length[DISK] = once_in(&l->random, 20) ? most
                        : wrong_length(&l->random, step->length[DISK], most);
+    if (once_in(&l->random, 2))
+        step->length[CHECK_AREA] = right_length(CHECK_AREA, step->length[DISK] / SCT_SECTOR_BYTES);
+}
+
+static void wrong_check_area(struct list *l, struct step *step)
+{
+    const size_t most = right_length(CHECK_AREA, SCT_NATIVE_LIMIT + 1);
+    size_t right = step->length[CHECK_AREA];
+
+    step->length[CHECK_AREA] = once_in(&l->random, 4) ? right + SCT_CHECK_BYTES
+                             : wrong_length(&l->random, right, most);
+    if (step->length[CHECK_AREA] > most)
+        step->length[CHECK_AREA] = most;
 }
 
 /* Makes some of the passed lengths wrong, and some of the numbers. */
@@ -816,6 +998,8 @@ static void distort(struct list *l, struct step *step)
             continue;
         if (b == DISK)
             wrong_disk(l, step);
+        else if (b == CHECK_AREA)
+            wrong_check_area(l, step);
         else if (b == IMAGE)
             step->length[b] = (size_t)below(r, once_in(r, 2) ? 2 : l->pair->used + 600) % IMAGE_ROOM;
         else
@@ -825,8 +1009,10 @@ static void distort(struct list *l, struct step *step)
         step->port = (uint32_t)random64(r);
         step->port >>= below(r, 32);
     }
-    if (once_in(r, 6))
+    if (once_in(r, 6)) {
         step->visible = 0;
+        step->lba = l->pair->sectors;
+    }
 }
 
 /* ---- Lists -------------------------------------------------------------------------- */

@@ -4,21 +4,28 @@
 #include <string.h>
 
 #include "bytes.h"
+#include "check.h"
 #include "layout.h"
 
 /* The longest that each buffer gets: right lengths, and wrong ones above them. */
 static const size_t room[BUFFERS] = {
     2 * SCT_RECORD_BYTES, 2 * SCT_PRIVATE_BYTES, 2 * SCT_MAILBOX_BYTES, IMAGE_ROOM,
-    (size_t)SCT_NATIVE_LIMIT * SCT_SECTOR_BYTES
+    (size_t)SCT_NATIVE_LIMIT * SCT_SECTOR_BYTES, (size_t)SCT_NATIVE_LIMIT * SCT_CHECK_BYTES
 };
 
-enum { OTHER_DISK_ROOM = (SCT_NATIVE_LIMIT + 2) * SCT_SECTOR_BYTES, OTHER_DISK_SEEN = 1 << 16 };
+/* For disks and check areas of wrong lengths: the longest, and how much of a long one is looked at. */
+static const size_t other_room[BUFFERS] = {
+    [DISK]       = ((size_t)SCT_NATIVE_LIMIT + 2) * SCT_SECTOR_BYTES,
+    [CHECK_AREA] = 2 * (size_t)SCT_NATIVE_LIMIT * SCT_CHECK_BYTES + SCT_SECTOR_BYTES
+};
+
+enum { OTHER_SEEN = 1 << 16 };
 
 enum { LARGE_DISK = 4096, MOST_PUT_OFF = 64 };
 
 enum { FILLER = 0xEE };     /* after the known bytes of a buffer that is too long */
 
-/* What is passed in this step, to both sides alike. The disk is in struct pair. */
+/* What is passed in this step, to both sides alike. Disk and check area are in struct pair. */
 static uint8_t before[DISK][IMAGE_ROOM];
 
 /* ---- Making and resetting ------------------------------------------------ */
@@ -29,14 +36,17 @@ void pair_make(struct pair *pair, const struct implementation *a, const struct i
     pair->side[0].code = a;
     pair->side[1].code = b;
     for (int s = 0; s < 2; s++) {
-        for (enum buffer buf = 0; buf < BUFFERS; buf++)
-            arena_make(&pair->side[s].arena[buf], room[buf]);
-        arena_make(&pair->side[s].other_disk, OTHER_DISK_ROOM);
+        for (enum buffer b = 0; b < BUFFERS; b++)
+            arena_make(&pair->side[s].arena[b], room[b]);
+        for (enum buffer b = DISK; b < BUFFERS; b++)
+            arena_make(&pair->side[s].other[b], other_room[b]);
     }
-    pair->disk = malloc(room[DISK]);
-    if (pair->disk == NULL) {
-        perror("no memory for the disk");
-        exit(2);
+    for (enum buffer b = DISK; b < BUFFERS; b++) {
+        pair->third[b] = malloc(room[b]);
+        if (pair->third[b] == NULL) {
+            perror("no memory for the disk");
+            exit(2);
+        }
     }
 }
 
@@ -52,6 +62,49 @@ static void fill_disk(struct random *r, uint8_t *disk, uint64_t sectors)
         put64(disk + i * SCT_SECTOR_BYTES, random64(r));
 }
 
+void flip_bit(uint8_t *disk, uint8_t *check_area, uint64_t lba, unsigned bit)
+{
+    uint8_t *at = disk + lba * SCT_SECTOR_BYTES;
+
+    if (bit >= SECTOR_BITS) {
+        at = check_area + lba * SCT_CHECK_BYTES;
+        bit -= SECTOR_BITS;
+    }
+    at[bit / 8] ^= (uint8_t)(1u << bit % 8);
+}
+
+unsigned random_bit(struct random *r)
+{
+    switch (below(r, 4)) {
+    case 0:  return SECTOR_BITS + (unsigned)below(r, 13);
+    case 1:  return SECTOR_BITS + (unsigned)between(r, 13, 15);
+    case 2:  return (unsigned)below(r, 8);
+    default: return (unsigned)below(r, SECTOR_BITS);
+    }
+}
+
+/* A quarter of the sectors has one or two wrong bits. */
+static void damage(struct random *r, uint8_t *disk, uint8_t *check_area, uint64_t sectors)
+{
+    for (uint64_t lba = 0; lba < sectors; lba++)
+        for (uint64_t flips = once_in(r, 4) ? between(r, 1, 2) : 0; flips > 0; flips--)
+            flip_bit(disk, check_area, lba, random_bit(r));
+}
+
+/* Mostly sound check bytes, sometimes damage, now and then bytes that nobody has made. */
+static void fill_check_area(struct random *r, uint8_t *check_area, uint8_t *disk, uint64_t sectors)
+{
+    uint64_t choice = below(r, 16);
+
+    if (choice == 0) {
+        random_bytes(r, check_area, right_length(CHECK_AREA, sectors));
+        return;
+    }
+    make_checks(check_area, disk, sectors);
+    if (choice < 6)
+        damage(r, disk, check_area, sectors);
+}
+
 void pair_reset(struct pair *pair, struct random *r, uint64_t sectors, enum placement placement)
 {
     pair->sectors = sectors;
@@ -59,14 +112,17 @@ void pair_reset(struct pair *pair, struct random *r, uint64_t sectors, enum plac
     pair->shift = (unsigned)below(r, 16);
     pair->used = 0;
     pair->put_off = 0;
-    fill_disk(r, pair->disk, sectors);
+    fill_disk(r, pair->third[DISK], sectors);
+    fill_check_area(r, pair->third[CHECK_AREA], pair->third[DISK], sectors);
     random_bytes(r, pair->record, sizeof pair->record);
     random_bytes(r, pair->area, sizeof pair->area);
     random_bytes(r, pair->image, sizeof pair->image);
     for (int s = 0; s < 2; s++) {
-        size_t length = (size_t)sectors * SCT_SECTOR_BYTES;
+        for (enum buffer b = DISK; b < BUFFERS; b++) {
+            size_t length = right_length(b, sectors);
 
-        memcpy(arena_place(&pair->side[s].arena[DISK], length, placement, pair->shift), pair->disk, length);
+            memcpy(arena_place(&pair->side[s].arena[b], length, placement, pair->shift), pair->third[b], length);
+        }
     }
 }
 
@@ -76,11 +132,9 @@ struct step plain_step(const struct pair *pair, enum entry entry)
 
     memset(&step, 0, sizeof step);
     step.entry = entry;
-    step.length[RECORD] = SCT_RECORD_BYTES;
-    step.length[PRIVATE_AREA] = SCT_PRIVATE_BYTES;
-    step.length[MAILBOX] = SCT_MAILBOX_BYTES;
+    for (enum buffer b = 0; b < BUFFERS; b++)
+        step.length[b] = right_length(b, pair->sectors);
     step.length[IMAGE] = SCT_IMAGE_LIMIT;
-    step.length[DISK] = (size_t)pair->sectors * SCT_SECTOR_BYTES;
     step.used = pair->used;
     return step;
 }
@@ -108,6 +162,12 @@ static void edit(struct pair *pair, const struct step *step)
             random_entry(&r, pair->image, k, step->native);
         pair->used = (uint64_t)SCT_ENTRY_BYTES * step->chain;
         break;
+    case FLIP_BIT:
+        flip_bit(pair->third[DISK], pair->third[CHECK_AREA], step->offset, step->bit);
+        for (int s = 0; s < 2; s++)
+            flip_bit(pair->side[s].arena[DISK].buffer, pair->side[s].arena[CHECK_AREA].buffer,
+                     step->offset, step->bit);
+        break;
     default:
         pair->used = step->used;
         break;
@@ -116,9 +176,10 @@ static void edit(struct pair *pair, const struct step *step)
 
 /* ---- Placing the buffers -------------------------------------------------- */
 
-static bool disk_is_other(const struct pair *pair, const struct step *step)
+/* A disk or check area of another length than that of the list's. */
+static bool is_other(const struct pair *pair, const struct step *step, enum buffer b)
 {
-    return step->length[DISK] != pair->sectors * SCT_SECTOR_BYTES;
+    return b >= DISK && step->length[b] != right_length(b, pair->sectors);
 }
 
 /* The known bytes of a buffer, then filler up to the length that is passed. */
@@ -141,21 +202,22 @@ static void prepare_all(const struct pair *pair, const struct step *step)
         prepare(IMAGE, pair->image, sizeof pair->image, step->length[IMAGE]);
 }
 
-/* The part of another disk that is looked at: all of a small one. */
-static size_t other_disk_seen(size_t length)
+/* The part of another disk or check area that is looked at: all of a small one. */
+static size_t other_seen(size_t length)
 {
-    return length < OTHER_DISK_SEEN ? length : OTHER_DISK_SEEN;
+    return length < OTHER_SEEN ? length : OTHER_SEEN;
 }
 
-static uint8_t *place_disk(const struct pair *pair, struct side *side, const struct step *step)
+/* Disk or check area. */
+static uint8_t *place_kept(const struct pair *pair, struct side *side, const struct step *step, enum buffer b)
 {
-    size_t length = step->length[DISK];
+    size_t length = step->length[b];
     uint8_t *at;
 
-    if (!disk_is_other(pair, step))
-        return side->arena[DISK].buffer;
-    at = arena_place(&side->other_disk, length, pair->placement, pair->shift);
-    memset(at, 0, other_disk_seen(length));
+    if (!is_other(pair, step, b))
+        return side->arena[b].buffer;
+    at = arena_place(&side->other[b], length, pair->placement, pair->shift);
+    memset(at, 0, other_seen(length));
     return at;
 }
 
@@ -167,8 +229,8 @@ static void place_all(const struct pair *pair, struct side *side, const struct s
         side->passed[b] = NULL;
         if (!entry_has(step->entry, b) || (length == 0 && step->null_if_empty))
             continue;
-        if (b == DISK) {
-            side->passed[b] = place_disk(pair, side, step);
+        if (b >= DISK) {
+            side->passed[b] = place_kept(pair, side, step, b);
         } else {
             side->passed[b] = arena_place(&side->arena[b], length, pair->placement, pair->shift);
             memcpy(side->passed[b], before[b], length);
@@ -178,7 +240,7 @@ static void place_all(const struct pair *pair, struct side *side, const struct s
 
 /* ---- Calling -------------------------------------------------------------- */
 
-/* The answer in bits 32 to 63 for every entry, as work has it. */
+/* The answer in bits 32 to 63 for every entry, as work and repair have it. */
 static uint64_t call(const struct side *side, const struct step *step)
 {
     const struct implementation *code = side->code;
@@ -188,19 +250,21 @@ static uint64_t call(const struct side *side, const struct step *step)
     switch (step->entry) {
     case POWER_ON:
         return (uint64_t)code->power_on(at[RECORD], length[RECORD], at[PRIVATE_AREA], length[PRIVATE_AREA],
-                                        at[DISK], length[DISK], at[IMAGE], length[IMAGE], step->used) << 32;
+                                        at[DISK], length[DISK], at[CHECK_AREA], length[CHECK_AREA],
+                                        at[IMAGE], length[IMAGE], step->used) << 32;
     case TAKE:
         return (uint64_t)code->take(at[RECORD], length[RECORD], step->port, at[MAILBOX], length[MAILBOX],
                                     at[PRIVATE_AREA], length[PRIVATE_AREA]) << 32;
     case SERVE:
         return (uint64_t)code->serve(at[RECORD], length[RECORD], step->port,
-                                     at[PRIVATE_AREA], length[PRIVATE_AREA], at[DISK], length[DISK]) << 32;
+                                     at[PRIVATE_AREA], length[PRIVATE_AREA], at[DISK], length[DISK],
+                                     at[CHECK_AREA], length[CHECK_AREA]) << 32;
     case GIVE:
         return (uint64_t)code->give(at[RECORD], length[RECORD], step->port, at[MAILBOX], length[MAILBOX],
                                     at[PRIVATE_AREA], length[PRIVATE_AREA]) << 32;
     case WORK:
         return code->work(at[RECORD], length[RECORD], at[PRIVATE_AREA], length[PRIVATE_AREA],
-                          at[DISK], length[DISK], step->n);
+                          at[DISK], length[DISK], at[CHECK_AREA], length[CHECK_AREA], step->n);
     case LOCK:
         return (uint64_t)code->lock(at[RECORD], length[RECORD]) << 32;
     case UNLOCK:
@@ -209,6 +273,9 @@ static uint64_t call(const struct side *side, const struct step *step)
         return (uint64_t)code->set_visible(at[RECORD], length[RECORD], step->visible) << 32;
     case SAMPLE:
         return (uint64_t)code->sample(at[RECORD], length[RECORD], step->reading) << 32;
+    case REPAIR:
+        return code->repair(at[RECORD], length[RECORD], at[DISK], length[DISK],
+                            at[CHECK_AREA], length[CHECK_AREA], step->lba);
     default:
         return (uint64_t)code->save(at[RECORD], length[RECORD], at[IMAGE], length[IMAGE], step->used) << 32;
     }
@@ -258,71 +325,89 @@ static bool buffer_agrees(const struct pair *pair, const struct step *step, enum
     return agrees;
 }
 
-static bool other_disk_agrees(const struct pair *pair, const struct step *step)
+static bool other_agrees(const struct pair *pair, const struct step *step, enum buffer b)
 {
-    size_t seen = other_disk_seen(step->length[DISK]);
-
-    return same(DISK, pair->side[0].code->name, pair->side[0].passed[DISK],
-                pair->side[1].code->name, pair->side[1].passed[DISK], seen);
+    return same(b, pair->side[0].code->name, pair->side[0].passed[b],
+                pair->side[1].code->name, pair->side[1].passed[b], other_seen(step->length[b]));
 }
 
 /*
- * Compares both disks; then the bytes from `open` on, which may not have
- * changed, with the third copy, into which the others are copied.
+ * Compares the disks or the check areas of both sides; then what belongs to the
+ * sectors from `open` on, which may not have changed, with the third copy, into
+ * which the rest is copied.
  */
-static bool disks_agree(struct pair *pair, size_t open)
+static bool kept_agree(struct pair *pair, enum buffer b, uint64_t open)
 {
     const struct side *one = &pair->side[0];
     const struct side *two = &pair->side[1];
-    const uint8_t *disk = one->arena[DISK].buffer;
-    size_t all = (size_t)pair->sectors * SCT_SECTOR_BYTES;
+    const uint8_t *bytes = one->arena[b].buffer;
+    size_t all = right_length(b, pair->sectors);
+    size_t from = right_length(b, open);
     bool agree;
 
-    agree = same(DISK, one->code->name, disk, two->code->name, two->arena[DISK].buffer, all);
-    agree &= same(DISK, "written where it may not be", disk + open, "before", pair->disk + open, all - open);
-    if (open != 0 && memcmp(pair->disk, disk, open) != 0)
-        memcpy(pair->disk, disk, open);
-    pair->put_off = 0;
+    agree = same(b, one->code->name, bytes, two->code->name, two->arena[b].buffer, all);
+    agree &= same(b, "written where it may not be", bytes + from, "before", pair->third[b] + from, all - from);
+    if (from != 0 && memcmp(pair->third[b], bytes, from) != 0)
+        memcpy(pair->third[b], bytes, from);
     return agree;
 }
 
-/* The visible bytes, by the record as the last step left it. */
-static size_t visible_bytes(const struct pair *pair)
+/* V, by the record as the last step left it. */
+static uint64_t visible_sectors(const struct pair *pair)
 {
-    return (size_t)get64(pair->record + 8) * SCT_SECTOR_BYTES;
+    return get64(pair->record + 8);
 }
 
-/* Where nothing was to be written no sector may change, else no hidden one. */
-static bool disk_agrees(struct pair *pair, const struct step *step, uint32_t answer)
+static bool disks_agree(struct pair *pair, uint64_t open)
 {
-    bool writes = answer == SCT_DONE && entry_may_change(step->entry, DISK);
+    pair->put_off = 0;
+    return kept_agree(pair, DISK, open);
+}
+
+/* Only a repair that reports 1 alters a sector. */
+static bool writes_sectors(const struct step *step, uint64_t result)
+{
+    return entry_may_change(step->entry, DISK) && (step->entry != REPAIR || sct_repair_report(result) == 1);
+}
+
+/*
+ * Where nothing was to be written no sector of the list's disk may change, nor
+ * its check bytes; else none of a hidden sector.
+ */
+static bool disk_agrees(struct pair *pair, const struct step *step, uint64_t result)
+{
+    bool passed = !is_other(pair, step, DISK) && !is_other(pair, step, CHECK_AREA);
+    bool done = passed && sct_work_answer(result) == SCT_DONE;
+    bool writes = done && writes_sectors(step, result);
+    bool checks = done && entry_may_change(step->entry, CHECK_AREA);
+    bool agree = kept_agree(pair, CHECK_AREA, checks ? visible_sectors(pair) : 0);
 
     if (pair->sectors <= LARGE_DISK)
-        return disks_agree(pair, writes ? visible_bytes(pair) : 0);
+        return disks_agree(pair, writes ? visible_sectors(pair) : 0) && agree;
     pair->put_off += writes;
-    return pair->put_off < MOST_PUT_OFF || disks_agree(pair, visible_bytes(pair));
+    return (pair->put_off < MOST_PUT_OFF || disks_agree(pair, visible_sectors(pair))) && agree;
 }
 
 /* After these steps V may have changed. */
-static bool may_change_visible(enum entry entry)
+static bool must_compare_before(enum entry entry)
 {
     return entry == POWER_ON || entry == SET_VISIBLE || entry == NEW_RECORD || entry == EDIT_RECORD;
 }
 
 bool pair_finish(struct pair *pair)
 {
-    if (pair->put_off == 0 || disks_agree(pair, visible_bytes(pair)))
+    if (pair->put_off == 0 || disks_agree(pair, visible_sectors(pair)))
         return true;
     printf("  in one of the last %d steps that may write\n", MOST_PUT_OFF);
     return false;
 }
 
-static bool guards_agree(const struct side *side, const struct step *step, bool other_disk)
+static bool guards_agree(const struct pair *pair, const struct side *side, const struct step *step)
 {
     bool hold = true;
 
     for (enum buffer b = 0; b < BUFFERS; b++) {
-        const struct arena *arena = b == DISK && other_disk ? &side->other_disk : &side->arena[b];
+        const struct arena *arena = is_other(pair, step, b) ? &side->other[b] : &side->arena[b];
 
         if (side->passed[b] == NULL || !entry_has(step->entry, b) || arena_guards_hold(arena))
             continue;
@@ -337,7 +422,7 @@ static bool results_agree(const struct pair *pair, const uint64_t result[2])
     if (result[0] == result[1])
         return true;
     for (int s = 0; s < 2; s++)
-        printf("  %s: answer %u, sectors %u\n", pair->side[s].code->name,
+        printf("  %s: answer %u, report %u\n", pair->side[s].code->name,
                sct_work_answer(result[s]), sct_work_sectors(result[s]));
     return false;
 }
@@ -345,16 +430,18 @@ static bool results_agree(const struct pair *pair, const uint64_t result[2])
 static bool everything_agrees(struct pair *pair, const struct step *step, const uint64_t result[2])
 {
     uint32_t answer = sct_work_answer(result[0]);
-    bool other = disk_is_other(pair, step);
     bool agrees = results_agree(pair, result);
 
     for (enum buffer b = 0; b < DISK; b++)
         if (entry_has(step->entry, b))
             agrees &= buffer_agrees(pair, step, b, answer);
+    for (enum buffer b = DISK; b < BUFFERS; b++)
+        if (entry_has(step->entry, b) && is_other(pair, step, b))
+            agrees &= other_agrees(pair, step, b);
     if (entry_has(step->entry, DISK))
-        agrees &= other ? other_disk_agrees(pair, step) : disk_agrees(pair, step, answer);
+        agrees &= disk_agrees(pair, step, result[0]);
     for (int s = 0; s < 2; s++)
-        agrees &= guards_agree(&pair->side[s], step, other);
+        agrees &= guards_agree(pair, &pair->side[s], step);
     return agrees;
 }
 
@@ -386,7 +473,7 @@ static void note_outcome(const struct pair *pair, const struct step *step, uint6
                          struct outcome *outcome)
 {
     outcome->answer = sct_work_answer(result);
-    outcome->sectors = sct_work_sectors(result);
+    outcome->report = sct_work_sectors(result);
     outcome->fills_after = pair->record[18] == 1;
     if (step->entry == SERVE && outcome->answer == SCT_DONE)
         memcpy(outcome->reply, pair->area + (size_t)SCT_MAILBOX_BYTES * step->port,
@@ -398,7 +485,7 @@ bool pair_step(struct pair *pair, const struct step *step, struct outcome *outco
     uint64_t result[2];
 
     memset(outcome, 0, sizeof *outcome);
-    if (may_change_visible(step->entry) && !pair_finish(pair))
+    if (must_compare_before(step->entry) && !pair_finish(pair))
         return false;
     if (step->entry >= ENTRIES) {
         edit(pair, step);

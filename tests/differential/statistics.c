@@ -2,7 +2,7 @@
 
 #include "request.h"
 
-enum { PLAIN_REFUSAL = 0, NOT_FOUND = CODES, GOOD = CODES + 1 };
+enum { PLAIN_REFUSAL = 0, NOT_FOUND = CODES, UNCORRECTABLE = CODES + 1, GOOD = CODES + 2 };
 
 static unsigned outcome_of_reply(const uint8_t *reply)
 {
@@ -12,6 +12,8 @@ static unsigned outcome_of_reply(const uint8_t *reply)
         return GOOD;
     if (reply[R_ERROR] == 0x10)
         return NOT_FOUND;
+    if (reply[R_ERROR] == 0x40)
+        return UNCORRECTABLE;
     return code < CODES ? code : PLAIN_REFUSAL;
 }
 
@@ -27,8 +29,11 @@ void statistics_add(struct statistics *s, const struct step *step, const struct 
         s->requests[outcome->kind][outcome_of_reply(outcome->reply)]++;
         break;
     case WORK:
-        s->sectors_written += outcome->sectors;
+        s->sectors_written += outcome->report;
         s->fills_finished += outcome->filled_before && !outcome->fills_after;
+        break;
+    case REPAIR:
+        s->repairs[outcome->report < REPORTS ? outcome->report : REPORTS]++;
         break;
     case POWER_ON:
         s->images_restored += step->used != 0;
@@ -57,13 +62,15 @@ static void print_answers(const struct statistics *s)
 
 static void print_requests(const struct statistics *s)
 {
-    printf("\nrequests served (good; refused: 04h without a code, 10h, by extended code)\n");
+    printf("\nrequests served (good; refused: 04h without a code, 10h, 40h, by extended code)\n");
     for (int k = 0; k < REQUEST_KINDS; k++) {
-        printf("%-18s good %llu", kind_name[k], (unsigned long long)s->requests[k][GOOD]);
+        printf("%-19s good %llu", kind_name[k], (unsigned long long)s->requests[k][GOOD]);
         if (s->requests[k][PLAIN_REFUSAL] != 0)
             printf(", 04h %llu", (unsigned long long)s->requests[k][PLAIN_REFUSAL]);
         if (s->requests[k][NOT_FOUND] != 0)
             printf(", 10h %llu", (unsigned long long)s->requests[k][NOT_FOUND]);
+        if (s->requests[k][UNCORRECTABLE] != 0)
+            printf(", 40h %llu", (unsigned long long)s->requests[k][UNCORRECTABLE]);
         for (int c = 1; c < CODES; c++)
             if (s->requests[k][c] != 0)
                 printf(", %04Xh %llu", c, (unsigned long long)s->requests[k][c]);
@@ -78,6 +85,11 @@ void statistics_print(const struct statistics *s)
     printf("fills finished %llu, sectors filled %llu, entries saved %llu, images restored %llu\n",
            (unsigned long long)s->fills_finished, (unsigned long long)s->sectors_written,
            (unsigned long long)s->entries_saved, (unsigned long long)s->images_restored);
+    printf("reads with Error 40h %llu, Long transfers read %llu, written %llu\n",
+           (unsigned long long)s->requests[K_SECTOR_READ][UNCORRECTABLE],
+           (unsigned long long)s->requests[K_LONG_READ][GOOD], (unsigned long long)s->requests[K_LONG_WRITE][GOOD]);
+    printf("repairs that report 0 %llu, 1 %llu, 2 %llu\n", (unsigned long long)s->repairs[0],
+           (unsigned long long)s->repairs[1], (unsigned long long)s->repairs[2]);
     print_answers(s);
     print_requests(s);
 }

@@ -4,12 +4,13 @@
 
 #include "pair.h"
 
-enum { ANSWERS = 9, CODES = 0x13, OUTCOMES = CODES + 2 };
+enum { ANSWERS = 9, REPORTS = 3, CODES = 0x13, OUTCOMES = CODES + 3 };
 
 struct statistics {
     uint64_t lists, steps, sweep_steps;
     uint64_t answers[ENTRIES][ANSWERS + 1];     /* the last one: a number that is no answer */
-    uint64_t requests[REQUEST_KINDS][OUTCOMES]; /* by code; then Error 10h; then good */
+    uint64_t requests[REQUEST_KINDS][OUTCOMES]; /* by code; then Error 10h and 40h; then good */
+    uint64_t repairs[REPORTS + 1];              /* by report; the last one: a number that is none */
     uint64_t fills_finished, sectors_written, images_restored, entries_saved;
 };
 

@@ -5,29 +5,31 @@
 #include "request.h"
 
 const char *const entry_name[STEP_KINDS] = {
-    "power-on", "take", "serve", "give", "work", "lock", "unlock", "set V", "sample", "save",
-    "edit image", "edit record", "new image", "new record", "used length"
+    "power-on", "take", "serve", "give", "work", "lock", "unlock", "set V", "sample", "repair", "save",
+    "edit image", "edit record", "new image", "new record", "used length", "flip bit"
 };
 
-const char *const buffer_name[BUFFERS] = { "record", "private area", "mailbox", "image", "disk" };
+const char *const buffer_name[BUFFERS] = { "record", "private area", "mailbox", "image", "disk", "check area" };
 
 const char *const kind_name[REQUEST_KINDS] = {
-    "status read", "key: pattern fill", "key: sector fill", "key: timers", "key: feature", "key: table",
-    "key: other", "E1h read", "E1h write", "24h read", "34h write", "other"
+    "status read", "key: Long", "key: pattern fill", "key: sector fill", "key: timers", "key: feature",
+    "key: table", "key: other", "E1h read", "E1h write", "E1h read, count 2", "E1h write, count 2",
+    "24h read", "34h write", "other"
 };
 
 /* One letter for each buffer: '.' not a parameter, 'c' only read, 'm' may change. */
 static const char buffers_of[ENTRIES][BUFFERS + 1] = {
-    [POWER_ON]    = "mm.cc",
-    [TAKE]        = "mmc..",
-    [SERVE]       = "mm..m",
-    [GIVE]        = "mcm..",
-    [WORK]        = "mc..m",
-    [LOCK]        = "m....",
-    [UNLOCK]      = "m....",
-    [SET_VISIBLE] = "m....",
-    [SAMPLE]      = "m....",
-    [SAVE]        = "c..m.",
+    [POWER_ON]    = "mm.ccc",
+    [TAKE]        = "mmc...",
+    [SERVE]       = "mm..mm",
+    [GIVE]        = "mcm...",
+    [WORK]        = "mc..mm",
+    [LOCK]        = "m.....",
+    [UNLOCK]      = "m.....",
+    [SET_VISIBLE] = "m.....",
+    [SAMPLE]      = "m.....",
+    [REPAIR]      = "m...mc",
+    [SAVE]        = "c..m..",
 };
 
 bool entry_has(enum entry entry, enum buffer buffer)
@@ -45,6 +47,7 @@ bool entry_may_change(enum entry entry, enum buffer buffer)
 static enum request_kind kind_of_key(const uint8_t *key)
 {
     switch (get16(key)) {
+    case 1:  return K_LONG;
     case 2:  return get16(key + 2) == 2 ? K_FILL_SECTOR : K_FILL_PATTERN;
     case 3:  return K_TIMER;
     case 4:  return K_FEATURE;
@@ -53,10 +56,18 @@ static enum request_kind kind_of_key(const uint8_t *key)
     }
 }
 
+/* An E1h of two sectors that is good is a Long transfer. */
+static enum request_kind kind_of_data(bool write, unsigned count)
+{
+    if (count == 2)
+        return write ? K_LONG_WRITE : K_LONG_READ;
+    return write ? K_DATA_WRITE : K_DATA_READ;
+}
+
 static enum request_kind kind_of_log(const uint8_t *mailbox, bool write, unsigned count)
 {
     if (mailbox[R_LOW] == 0xE1)
-        return write ? K_DATA_WRITE : K_DATA_READ;
+        return kind_of_data(write, count);
     if (mailbox[R_LOW] != 0xE0 || count != 1)
         return K_OTHER;
     return write ? kind_of_key(mailbox + R_SECTOR) : K_STATUS;
@@ -101,18 +112,27 @@ static void print_request(FILE *out, const uint8_t *mailbox)
     if (kind == K_FILL_PATTERN || kind == K_FILL_SECTOR)
         fprintf(out, ", function %u start %llu count %llu", get16(key + 2),
                 (unsigned long long)get64(key + 4), (unsigned long long)get64(key + 12));
-    if (kind == K_STATUS || kind == K_DATA_READ || kind == K_SECTOR_READ)
+    if (kind == K_LONG)
+        fprintf(out, ", function %u LBA %llu", get16(key + 2), (unsigned long long)get64(key + 4));
+    if (kind == K_STATUS || kind == K_DATA_READ || kind == K_LONG_READ || kind == K_SECTOR_READ)
         return;
     fprintf(out, ", sector ");
     print_bytes(out, key, 24);
     fprintf(out, " ..");
+    if (kind == K_LONG_WRITE)
+        fprintf(out, ", check %04Xh", get16(mailbox + R_CHECK));
 }
 
-static size_t right_length(enum buffer buffer, uint64_t sectors)
+size_t right_length(enum buffer buffer, uint64_t sectors)
 {
-    static const size_t size[BUFFERS] = { SCT_RECORD_BYTES, SCT_PRIVATE_BYTES, SCT_MAILBOX_BYTES, 0, 0 };
-
-    return buffer == DISK ? (size_t)(sectors * SCT_SECTOR_BYTES) : size[buffer];
+    switch (buffer) {
+    case RECORD:       return SCT_RECORD_BYTES;
+    case PRIVATE_AREA: return SCT_PRIVATE_BYTES;
+    case MAILBOX:      return SCT_MAILBOX_BYTES;
+    case DISK:         return (size_t)sectors * SCT_SECTOR_BYTES;
+    case CHECK_AREA:   return (size_t)sectors * SCT_CHECK_BYTES;
+    default:           return 0;
+    }
 }
 
 static void print_lengths(FILE *out, const struct step *step, uint64_t sectors)
@@ -145,6 +165,10 @@ static void print_edit(FILE *out, const struct step *step)
         fprintf(out, ": %s, of a disk of %llu sectors", step->spoilt ? "one number moved" : "sound",
                 (unsigned long long)step->native);
         break;
+    case FLIP_BIT:
+        fprintf(out, " %u of sector %zu%s", step->bit % (8 * SCT_SECTOR_BYTES), step->offset,
+                step->bit < 8 * SCT_SECTOR_BYTES ? "" : ", in its check bytes");
+        break;
     default:
         fprintf(out, " becomes %llu", (unsigned long long)step->used);
         break;
@@ -175,6 +199,9 @@ void print_step(FILE *out, const struct step *step, uint64_t sectors)
         break;
     case SAMPLE:
         fprintf(out, " %02Xh", step->reading);
+        break;
+    case REPAIR:
+        fprintf(out, " sector %llu", (unsigned long long)step->lba);
         break;
     case SAVE:
     case POWER_ON:

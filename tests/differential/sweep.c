@@ -2,7 +2,7 @@
 
 #include <string.h>
 
-#include "bytes.h"
+#include "check.h"
 #include "layout.h"
 #include "request.h"
 
@@ -36,6 +36,7 @@ struct start {
     uint8_t  record[SCT_RECORD_BYTES];
     uint8_t  area[SCT_PRIVATE_BYTES];
     uint8_t  disk[SECTORS * SCT_SECTOR_BYTES];
+    uint8_t  check_area[SECTORS * SCT_CHECK_BYTES];
     uint8_t  image[3 * SCT_ENTRY_BYTES];
     uint64_t used;
 };
@@ -44,7 +45,8 @@ static void keep_start(struct start *start, const struct pair *pair)
 {
     memcpy(start->record, pair->record, sizeof start->record);
     memcpy(start->area, pair->area, sizeof start->area);
-    memcpy(start->disk, pair->disk, sizeof start->disk);
+    memcpy(start->disk, pair->third[DISK], sizeof start->disk);
+    memcpy(start->check_area, pair->third[CHECK_AREA], sizeof start->check_area);
     memcpy(start->image, pair->image, sizeof start->image);
     start->used = pair->used;
 }
@@ -53,9 +55,12 @@ static void go_to_start(struct pair *pair, const struct start *start)
 {
     memcpy(pair->record, start->record, sizeof start->record);
     memcpy(pair->area, start->area, sizeof start->area);
-    memcpy(pair->disk, start->disk, sizeof start->disk);
-    for (int i = 0; i < 2; i++)
+    memcpy(pair->third[DISK], start->disk, sizeof start->disk);
+    memcpy(pair->third[CHECK_AREA], start->check_area, sizeof start->check_area);
+    for (int i = 0; i < 2; i++) {
         memcpy(pair->side[i].arena[DISK].buffer, start->disk, sizeof start->disk);
+        memcpy(pair->side[i].arena[CHECK_AREA].buffer, start->check_area, sizeof start->check_area);
+    }
     memcpy(pair->image, start->image, sizeof start->image);
     pair->used = start->used;
 }
@@ -84,7 +89,10 @@ static unsigned values_for(uint8_t *values, uint8_t now, struct random *r, enum 
 
 /* ---- Records ------------------------------------------------------------------ */
 
-enum variation { IDLE, FILLING, AT_LAST_SECTOR, TABLE_PENDING, FILL_PENDING, LOCKED, ABOUT_TO_LOG, VARIATIONS };
+enum variation {
+    IDLE, FILLING, AT_LAST_SECTOR, TABLE_PENDING, FILL_PENDING, LONG_READ_PENDING, LONG_WRITE_PENDING, LOCKED,
+    ABOUT_TO_LOG, VARIATIONS
+};
 
 /* Port 0 held, port 2 answered, two thirds of the disk visible. */
 static void base_record(struct random *r, uint8_t *record, enum variation variation)
@@ -123,11 +131,14 @@ static void base_record(struct random *r, uint8_t *record, enum variation variat
         f.slot[HELD_PORT].pending = PENDING_FILL;
         f.slot[HELD_PORT].first = 1;
         f.slot[HELD_PORT].end = 4;
+    } else if (variation == LONG_READ_PENDING || variation == LONG_WRITE_PENDING) {
+        f.slot[HELD_PORT].pending = variation == LONG_READ_PENDING ? PENDING_LONG_READ : PENDING_LONG_WRITE;
+        f.slot[HELD_PORT].first = VISIBLE - 1;
     }
     encode_record(record, &f);
 }
 
-enum { HELD_REQUESTS = 6 };
+enum { HELD_REQUESTS = 9 };
 
 static void held_request(uint8_t *mailbox, unsigned number)
 {
@@ -137,6 +148,9 @@ static void held_request(uint8_t *mailbox, unsigned number)
     case 2:  build_key(mailbox, SMART, 4, 1, 3, 2, 1); break;
     case 3:  build_data_read(mailbox, SMART); break;
     case 4:  build_data_write(mailbox, LOG_EXT); break;
+    case 5:  build_long(mailbox, SMART, 2, VISIBLE - 2); break;
+    case 6:  build_long_read(mailbox, LOG_EXT); break;
+    case 7:  build_long_write(mailbox, SMART); break;
     default: build_sector(mailbox, true, VISIBLE - 1, 1); break;
     }
 }
@@ -149,6 +163,7 @@ static struct step step_of(const struct pair *pair, enum entry entry)
     step.n = 3;
     step.visible = VISIBLE - 2;
     step.reading = 0x21;
+    step.lba = VISIBLE - 1;
     build_status(step.mailbox, SMART);
     return step;
 }
@@ -374,6 +389,56 @@ static bool try_fills(struct pair *pair, struct statistics *s, uint64_t visible)
     return true;
 }
 
+/* A bit of the sector flips, where there is that sector, and it is repaired twice. */
+static bool try_repair(struct pair *pair, struct statistics *s, uint64_t lba, unsigned bit)
+{
+    struct step flip = plain_step(pair, FLIP_BIT);
+    struct step repair = plain_step(pair, REPAIR);
+
+    flip.offset = (size_t)lba;
+    flip.bit = (uint16_t)bit;
+    repair.lba = lba;
+    if (lba < pair->sectors && !sweep_step(pair, s, &flip))
+        return false;
+    return sweep_step(pair, s, &repair) && sweep_step(pair, s, &repair);
+}
+
+/* A Long transfer of this function is asked for at this LBA, and made if it is pending. */
+static bool try_long(struct pair *pair, struct statistics *s, struct random *r, uint16_t function, uint64_t lba)
+{
+    uint8_t mailbox[SCT_MAILBOX_BYTES];
+
+    build_long(mailbox, LOG_EXT, function, lba);
+    if (!sweep_exchange(pair, s, mailbox))
+        return false;
+    build_log(mailbox, SMART, function == 2, 0xE1, 2);
+    random_bytes(r, mailbox + R_SECTOR, SCT_DATA_BYTES);
+    return sweep_exchange(pair, s, mailbox);
+}
+
+static bool try_longs(struct pair *pair, struct statistics *s, struct random *r, uint64_t visible)
+{
+    uint64_t numbers[NUMBERS];
+    unsigned count = interesting_numbers(numbers, visible);
+
+    for (unsigned i = 0; i < count; i++)
+        for (uint16_t function = 1; function <= 2; function++)
+            if (!try_long(pair, s, r, function, numbers[i]))
+                return false;
+    return true;
+}
+
+static bool try_repairs(struct pair *pair, struct statistics *s, uint64_t visible)
+{
+    uint64_t numbers[NUMBERS];
+    unsigned count = interesting_numbers(numbers, visible);
+
+    for (unsigned i = 0; i < count; i++)
+        if (!try_repair(pair, s, numbers[i], 17 * i % SECTOR_BITS))
+            return false;
+    return true;
+}
+
 bool sweep_addresses(struct pair *pair, struct statistics *s)
 {
     static const uint64_t sizes[] = { SCT_NATIVE_LIMIT, SCT_NATIVE_LIMIT - 1, 40000, 32768, 1 };
@@ -387,15 +452,56 @@ bool sweep_addresses(struct pair *pair, struct statistics *s)
     for (size_t i = 0; i < sizeof sizes / sizeof sizes[0]; i++) {
         step = plain_step(pair, SET_VISIBLE);
         step.visible = sizes[i];
-        if (!sweep_step(pair, s, &step) || !try_sectors(pair, s, &r, sizes[i]) || !try_fills(pair, s, sizes[i]))
+        if (!sweep_step(pair, s, &step) || !try_sectors(pair, s, &r, sizes[i]) ||
+            !try_fills(pair, s, sizes[i]) || !try_longs(pair, s, &r, sizes[i]) || !try_repairs(pair, s, sizes[i]))
             return false;
     }
     return pair_finish(pair);
 }
 
+/* ---- Flipped bits --------------------------------------------------------------- */
+
+/* Each bit of a sector and of its check bytes flips alone, and with the one before it. */
+bool sweep_flips(struct pair *pair, struct statistics *s)
+{
+    static struct start start;
+    struct random r = random_for(1, 6);
+
+    pair_reset(pair, &r, SECTORS, AT_END);
+    make_checks(pair->third[CHECK_AREA], pair->third[DISK], SECTORS);
+    base_record(&r, pair->record, FILLING);
+    keep_start(&start, pair);
+    for (unsigned bit = 0; bit < SECTOR_BITS + 8 * SCT_CHECK_BYTES; bit++) {
+        struct step flip = plain_step(pair, FLIP_BIT);
+
+        flip.bit = (uint16_t)(bit == 0 ? SECTOR_BITS : bit - 1);
+        go_to_start(pair, &start);
+        if (!try_repair(pair, s, 0, bit))
+            return false;
+        go_to_start(pair, &start);
+        if (!sweep_step(pair, s, &flip) || !try_repair(pair, s, 0, bit))
+            return false;
+    }
+    return true;
+}
+
 /* ---- Lengths -------------------------------------------------------------------- */
 
 enum { LENGTH_CHOICES = 6 };
+
+/* Mailbox and private area as they were before W-202. */
+enum { OLD_MAILBOX = 528, OLD_PRIVATE_AREA = 2624 };
+
+static size_t other_length(enum buffer b, size_t right)
+{
+    switch (b) {
+    case IMAGE:        return SCT_ENTRY_BYTES;
+    case CHECK_AREA:   return right + SCT_CHECK_BYTES;
+    case MAILBOX:      return OLD_MAILBOX;
+    case PRIVATE_AREA: return OLD_PRIVATE_AREA;
+    default:           return right + SCT_SECTOR_BYTES;
+    }
+}
 
 /* Choice 0 is right; choice 1 is NULL, as null_if_empty is set with it. */
 static size_t choose_length(const struct step *step, enum buffer b, unsigned choice)
@@ -408,7 +514,7 @@ static size_t choose_length(const struct step *step, enum buffer b, unsigned cho
     case 2:  return 0;
     case 3:  return right - 1;
     case 4:  return right + 1;
-    default: return b == IMAGE ? SCT_ENTRY_BYTES : right + 512;
+    default: return other_length(b, right);
     }
 }
 
@@ -443,6 +549,7 @@ static bool try_lengths(struct pair *pair, struct statistics *s, const struct st
 {
     static const uint32_t ports[] = { 0, 1, 2, 3, 4, 0x80000000 };
     static const uint64_t sizes[] = { 1, 0, SECTORS, SECTORS + 1, 0x100000001, UINT64_MAX };
+    static const uint64_t lbas[] = { 0, VISIBLE - 1, VISIBLE, SECTORS, 0x100000000, UINT64_MAX };
 
     for (unsigned number = 0; number < mixtures(entry); number++) {
         for (unsigned i = 0; i < 6 * 3; i++) {
@@ -454,6 +561,7 @@ static bool try_lengths(struct pair *pair, struct statistics *s, const struct st
             step = mixture(pair, entry, number);
             step.port = ports[i / 3];
             step.visible = sizes[i / 3];
+            step.lba = lbas[i / 3];
             if (!sweep_step(pair, s, &step))
                 return false;
         }

@@ -1,11 +1,12 @@
 /*
  * sequence.c - the interface at work, from power-on to power-on.
  *
- * The owner hides the end of a new disk. One core starts a fill, the handler
- * advances it in pieces, and another core polls it. The device is saved and
- * started again from what was saved. Whatever is printed has been compared;
- * the first difference ends the program with 1. docs/interface.md describes
- * the same in words.
+ * The owner makes the check bytes of a disk, and hides its end. One core starts
+ * a fill, the handler advances it in pieces, and another core polls it. The
+ * device is saved and started again from what was saved. A bit of a sector
+ * flips, and is repaired. A test bench damages a sector by Long Sector Access,
+ * and looks at it. Whatever is printed has been compared; the first difference
+ * ends the program with 1. docs/interface.md describes the same in words.
  */
 #include <stdio.h>
 #include <stdlib.h>
@@ -20,6 +21,7 @@ enum { NATIVE = 64, VISIBLE = 48 };   /* sectors; those from 48 on are hidden */
 static uint8_t  device[SCT_RECORD_BYTES];
 static uint8_t  area[SCT_PRIVATE_BYTES];          /* no core sees it */
 static uint8_t  disk[NATIVE * SCT_SECTOR_BYTES];
+static uint8_t  check_area[NATIVE * SCT_CHECK_BYTES];
 static uint8_t  mailbox[SCT_PORTS][SCT_MAILBOX_BYTES];    /* common memory */
 static uint8_t  image[2 * SCT_ENTRY_BYTES];
 static uint64_t used;
@@ -36,10 +38,33 @@ static void expect(int holds, int line, const char *what)
 
 /* ---- What the handler does ----------------------------------------------- */
 
+/* The check of a sector, bit by bit. */
+static uint16_t check_of(const uint8_t *sector)
+{
+    unsigned check = 0;
+
+    for (unsigned position = 0; position < 8 * SCT_SECTOR_BYTES; position++)
+        if (sector[position / 8] >> position % 8 & 1)
+            check ^= 0x1000 | position;
+    return (uint16_t)check;
+}
+
+/* Where nobody has made them: the check bytes of the whole disk. */
+static void make_check_bytes(void)
+{
+    for (unsigned i = 0; i < NATIVE; i++) {
+        uint16_t check = check_of(disk + i * SCT_SECTOR_BYTES);
+
+        check_area[SCT_CHECK_BYTES * i] = (uint8_t)check;
+        check_area[SCT_CHECK_BYTES * i + 1] = (uint8_t)(check >> 8);
+    }
+}
+
 static uint32_t power_on(void)
 {
     return sct_power_on(device, sizeof device, area, sizeof area,
-                        disk, sizeof disk, image, sizeof image, used);
+                        disk, sizeof disk, check_area, sizeof check_area,
+                        image, sizeof image, used);
 }
 
 static uint32_t take(uint32_t port)
@@ -51,7 +76,7 @@ static uint32_t take(uint32_t port)
 static uint32_t serve(uint32_t port)
 {
     return sct_serve(device, sizeof device, port, area, sizeof area,
-                     disk, sizeof disk);
+                     disk, sizeof disk, check_area, sizeof check_area);
 }
 
 static uint32_t give(uint32_t port)
@@ -72,7 +97,7 @@ static void handle(uint32_t port)
 static uint32_t work(uint32_t n)
 {
     uint64_t result = sct_work(device, sizeof device, area, sizeof area,
-                               disk, sizeof disk, n);
+                               disk, sizeof disk, check_area, sizeof check_area, n);
 
     EXPECT(sct_work_answer(result) == SCT_DONE);
     return sct_work_sectors(result);
@@ -80,7 +105,7 @@ static uint32_t work(uint32_t n)
 
 /* ---- What the cores ask, and what they expect ---------------------------- */
 
-enum { COUNT = 2, LBA_LOW = 4, COMMAND = 11, STATUS = 12, ERROR = 13, SECTOR = 16 };
+enum { COUNT = 2, LBA_LOW = 4, LBA_MID = 6, COMMAND = 11, STATUS = 12, ERROR = 13, SECTOR = 16, CHECK = 16 + 512 };
 
 static void put(uint8_t *at, int bytes, uint64_t value)
 {
@@ -118,15 +143,52 @@ static void ask_sector(uint32_t port, uint8_t lba)
     mailbox[port][LBA_LOW] = lba;
 }
 
-/* The reply has this Status and Error, this sector (NULL: zeros), and 0 elsewhere. */
-static int replied(uint32_t port, uint8_t status, uint8_t error, const uint8_t *sector)
+/* The key of Read Long (action 1, function 1) or Write Long (function 2). */
+static void ask_long(uint32_t port, uint8_t function, uint64_t lba)
+{
+    uint8_t *key = mailbox[port] + SECTOR;
+
+    ask_log(port, 0xD6);
+    put(key, 2, 1);
+    put(key + 2, 2, function);
+    put(key + 4, 8, lba);
+}
+
+/* E1h, two sectors: a sector, its check bytes, and 510 bytes that don't matter. */
+static void ask_long_data(uint32_t port, uint8_t feature, const uint8_t *sector, uint16_t check)
+{
+    ask_log(port, feature);
+    mailbox[port][COUNT] = 2;
+    mailbox[port][LBA_LOW] = 0xE1;
+    if (sector != NULL)
+        memcpy(mailbox[port] + SECTOR, sector, SCT_SECTOR_BYTES);
+    put(mailbox[port] + CHECK, 2, check);
+}
+
+/* The reply has this Status and Error, this data (NULL: zeros), and 0 elsewhere. */
+static int replied_with(uint32_t port, uint8_t status, uint8_t error, const uint8_t *data, size_t bytes)
 {
     uint8_t reply[SCT_MAILBOX_BYTES] = { 0 };
 
     reply[STATUS] = status;
     reply[ERROR] = error;
-    if (sector != NULL)
-        memcpy(reply + SECTOR, sector, SCT_SECTOR_BYTES);
+    if (data != NULL)
+        memcpy(reply + SECTOR, data, bytes);
+    return memcmp(mailbox[port], reply, sizeof reply) == 0;
+}
+
+static int replied(uint32_t port, uint8_t status, uint8_t error, const uint8_t *sector)
+{
+    return replied_with(port, status, error, sector, SCT_SECTOR_BYTES);
+}
+
+/* The reply to a key of Long Sector Access: two sectors are to follow. */
+static int replied_long(uint32_t port)
+{
+    uint8_t reply[SCT_MAILBOX_BYTES] = { 0 };
+
+    reply[STATUS] = 0x50;
+    reply[COUNT] = reply[LBA_MID] = 2;
     return memcmp(mailbox[port], reply, sizeof reply) == 0;
 }
 
@@ -156,25 +218,31 @@ static void poll(uint32_t port, struct status s)
            (unsigned)port, s.code, s.state, s.next, s.flag, s.life);
 }
 
-/* The first sectors are filled, the other visible ones zeros, the hidden ones as they were. */
+/* The first sectors are filled, the other visible ones zeros, the hidden ones as they were; all checks are right. */
 static int disk_is(unsigned filled)
 {
     for (unsigned i = 0; i < sizeof disk; i++) {
         unsigned sector = i / SCT_SECTOR_BYTES;
-        int byte = sector < filled ? "DEMO"[i % 4] : sector < VISIBLE ? 0 : 'R';
+        unsigned place = i % SCT_SECTOR_BYTES;
+        int byte = sector < filled ? "DEMO"[place % 4] : sector < VISIBLE ? 0 : (int)(place % 251);
 
         if (disk[i] != byte)
             return 0;
     }
+    for (unsigned i = 0; i < NATIVE; i++)
+        if ((check_area[2 * i] | check_area[2 * i + 1] << 8) != check_of(disk + i * SCT_SECTOR_BYTES))
+            return 0;
     return 1;
 }
 
 /* ---- The sequence -------------------------------------------------------- */
 
-/* A new disk shows all its sectors: hide some before the first take. */
+/* A new disk shows all its sectors: hide some before the first take. Power-on makes no check bytes. */
 static void start(void)
 {
-    memset(disk + VISIBLE * SCT_SECTOR_BYTES, 'R', (NATIVE - VISIBLE) * SCT_SECTOR_BYTES);
+    for (unsigned i = VISIBLE * SCT_SECTOR_BYTES; i < sizeof disk; i++)
+        disk[i] = (uint8_t)(i % SCT_SECTOR_BYTES % 251);
+    make_check_bytes();
     EXPECT(power_on() == SCT_DONE);
     EXPECT(sct_set_visible(device, sizeof device, VISIBLE) == SCT_DONE);
     printf("power-on of a new disk: %d sectors, %d visible\n", NATIVE, VISIBLE);
@@ -253,6 +321,76 @@ static void refuse(void)
     printf("answers %d, %d, %d\n", SCT_BAD_STAGE, SCT_BAD_VALUE, SCT_BAD_RECORD);
 }
 
+static uint32_t repair(uint64_t lba)
+{
+    uint64_t result = sct_repair(device, sizeof device, disk, sizeof disk, check_area, sizeof check_area, lba);
+
+    EXPECT(sct_repair_answer(result) == SCT_DONE);
+    return sct_repair_report(result);
+}
+
+/* A bit flips: the sector can't be read until the owner repairs it. Two flipped bits are seen and stay. */
+static void flip(void)
+{
+    uint8_t *byte = disk + 5 * SCT_SECTOR_BYTES + 100;
+
+    *byte ^= 0x08;
+    ask_sector(2, 5);
+    handle(2);
+    EXPECT(replied(2, 0x51, 0x40, NULL));
+    printf("port 2: a bit of sector 5 has flipped, refused\n");
+
+    EXPECT(repair(5) == 1);
+    EXPECT(repair(5) == 0);
+    EXPECT(disk_is(VISIBLE));
+    ask_sector(2, 5);
+    handle(2);
+    EXPECT(replied(2, 0x50, 0x00, disk + 5 * SCT_SECTOR_BYTES));
+    printf("repair of sector 5, twice: 1, 0\n");
+    printf("port 2: sector 5 read\n");
+    poll(1, (struct status){ 0, 0, 0x0000, 0, 0, 0, 0x80, 0x80, 0x23 });
+
+    *byte ^= 0x18;
+    EXPECT(repair(5) == 2);
+    *byte ^= 0x18;
+    EXPECT(disk_is(VISIBLE));
+    printf("repair of sector 5 with two flipped bits: 2\n");
+}
+
+/* A sector with one wrong bit, and the check bytes of the right one, are sent by Write Long and read back. */
+static void damage(void)
+{
+    uint8_t sector[SCT_SECTOR_BYTES + SCT_CHECK_BYTES];
+    uint16_t check = check_of(disk + 7 * SCT_SECTOR_BYTES);
+
+    memcpy(sector, disk + 7 * SCT_SECTOR_BYTES, SCT_SECTOR_BYTES);
+    put(sector + SCT_SECTOR_BYTES, 2, check);
+    sector[511] ^= 0x80;
+
+    ask_long(3, 2, 7);
+    handle(3);
+    EXPECT(replied_long(3));
+    ask_long_data(3, 0xD6, sector, check);
+    handle(3);
+    EXPECT(replied(3, 0x50, 0x00, NULL));
+    printf("port 3: sector 7 written by Write Long, with a wrong bit\n");
+
+    ask_sector(3, 7);
+    handle(3);
+    EXPECT(replied(3, 0x51, 0x40, NULL));
+    ask_long(3, 1, 7);
+    handle(3);
+    EXPECT(replied_long(3));
+    ask_long_data(3, 0xD5, NULL, 0);
+    handle(3);
+    EXPECT(replied_with(3, 0x50, 0x00, sector, sizeof sector));
+    printf("port 3: sector 7 refused, and sent by Read Long\n");
+
+    EXPECT(repair(7) == 1);
+    EXPECT(disk_is(VISIBLE));
+    printf("repair of sector 7: 1\n");
+}
+
 int main(void)
 {
     start();
@@ -261,5 +399,7 @@ int main(void)
     sample_and_save();
     start_again();
     refuse();
+    flip();
+    damage();
     return 0;
 }

@@ -5,7 +5,7 @@
  * the main thread takes, serves, works and gives. The request is whatever the
  * private area's slot holds after the take, torn or not: the reference serves
  * a copy of those bytes, and everything must come out the same. No sector at
- * or above V may ever change.
+ * or above V may ever change, and no check bytes of one.
  *
  *   race [seconds]      5 seconds if none are given
  */
@@ -20,11 +20,12 @@
 #include <time.h>
 
 #include "bytes.h"
+#include "check.h"
 #include "implementation.h"
 #include "random.h"
 #include "request.h"
 
-enum { SECTORS = 64, VISIBLE = 32, WRITERS = 2, REQUESTS = 12, MAILBOX_WORDS = SCT_MAILBOX_BYTES / 8 };
+enum { SECTORS = 64, VISIBLE = 32, WRITERS = 2, REQUESTS = 17, MAILBOX_WORDS = SCT_MAILBOX_BYTES / 8 };
 
 /* ---- The common memory, and the threads that write it --------------------------- */
 
@@ -42,7 +43,7 @@ static uint64_t requests[REQUESTS][MAILBOX_WORDS];
  * too far. For a while both threads keep to one theme, so that a torn request
  * is still one that can be carried out.
  */
-static const struct { unsigned first, count; } themes[] = { { 0, 5 }, { 5, 3 }, { 8, 4 }, { 0, REQUESTS } };
+static const struct { unsigned first, count; } themes[] = { { 0, 5 }, { 5, 3 }, { 8, 4 }, { 12, 5 }, { 0, REQUESTS } };
 
 enum { THEMES = sizeof themes / sizeof themes[0], EXCHANGES_PER_THEME = 64 };
 
@@ -63,7 +64,12 @@ static void build_requests(void)
         case 8:  build_fill(mail, SMART, 2, 3, 5, 0); break;
         case 9:  build_data_write(mail, SMART); break;
         case 10: build_status(mail, SMART); break;
-        default: build_sector(mail, false, 7, 1); break;
+        case 11: build_sector(mail, false, 7, 1); break;
+        case 12: build_long(mail, SMART, 2, 9); break;
+        case 13: build_long(mail, SMART, 2, VISIBLE); break;
+        case 14: build_long(mail, SMART, 1, SECTORS - 1); break;
+        case 15: build_long_read(mail, SMART); break;
+        default: build_long_write(mail, SMART); break;
         }
         memset(mail + 64, 0x10 + (int)i, SCT_MAILBOX_BYTES - 64);
         memcpy(requests[i], mail, sizeof mail);
@@ -94,10 +100,12 @@ struct device {
     uint8_t record[SCT_RECORD_BYTES];
     uint8_t area[SCT_PRIVATE_BYTES];
     uint8_t disk[SECTORS * SCT_SECTOR_BYTES];
+    uint8_t check_area[SECTORS * SCT_CHECK_BYTES];
 };
 
 static struct device tested, beside;
 static uint8_t hidden[(SECTORS - VISIBLE) * SCT_SECTOR_BYTES];
+static uint8_t hidden_checks[(SECTORS - VISIBLE) * SCT_CHECK_BYTES];
 static uint64_t exchanges, torn, good, sectors;
 
 static void stop(const char *what)
@@ -116,18 +124,22 @@ static void expect_same(const char *step)
 {
     if (memcmp(tested.record, beside.record, sizeof tested.record) != 0 ||
         memcmp(tested.area, beside.area, sizeof tested.area) != 0 ||
-        memcmp(tested.disk, beside.disk, sizeof tested.disk) != 0)
+        memcmp(tested.disk, beside.disk, sizeof tested.disk) != 0 ||
+        memcmp(tested.check_area, beside.check_area, sizeof tested.check_area) != 0)
         stop(step);
     expect(memcmp(tested.disk + VISIBLE * SCT_SECTOR_BYTES, hidden, sizeof hidden) == 0,
            "a sector at or above V was written");
+    expect(memcmp(tested.check_area + VISIBLE * SCT_CHECK_BYTES, hidden_checks, sizeof hidden_checks) == 0,
+           "check bytes of a sector at or above V were written");
 }
 
 static void start_device(const struct implementation *code, struct device *d)
 {
     for (size_t i = 0; i < sizeof d->disk; i++)
-        d->disk[i] = (uint8_t)(i / SCT_SECTOR_BYTES);
+        d->disk[i] = (uint8_t)(i / SCT_SECTOR_BYTES * (i % SCT_SECTOR_BYTES));
+    make_checks(d->check_area, d->disk, SECTORS);
     expect(code->power_on(d->record, sizeof d->record, d->area, sizeof d->area, d->disk, sizeof d->disk,
-                          NULL, 0, 0) == SCT_DONE, "power-on is refused");
+                          d->check_area, sizeof d->check_area, NULL, 0, 0) == SCT_DONE, "power-on is refused");
     expect(code->set_visible(d->record, sizeof d->record, VISIBLE) == SCT_DONE, "setting V is refused");
 }
 
@@ -158,9 +170,11 @@ static void take(uint32_t port)
 static void serve(uint32_t port)
 {
     expect(archive.serve(tested.record, sizeof tested.record, port, tested.area, sizeof tested.area,
-                         tested.disk, sizeof tested.disk) == SCT_DONE, "serve is refused");
+                         tested.disk, sizeof tested.disk, tested.check_area, sizeof tested.check_area) == SCT_DONE,
+           "serve is refused");
     expect(reference.serve(beside.record, sizeof beside.record, port, beside.area, sizeof beside.area,
-                           beside.disk, sizeof beside.disk) == SCT_DONE, "serve is refused by the reference");
+                           beside.disk, sizeof beside.disk, beside.check_area, sizeof beside.check_area) == SCT_DONE,
+           "serve is refused by the reference");
     good += tested.area[SCT_MAILBOX_BYTES * port + R_STATUS] == 0x50;
     expect_same("what was served is not what the slot held");
 }
@@ -168,9 +182,9 @@ static void serve(uint32_t port)
 static void work(uint32_t n)
 {
     uint64_t a = archive.work(tested.record, sizeof tested.record, tested.area, sizeof tested.area,
-                              tested.disk, sizeof tested.disk, n);
+                              tested.disk, sizeof tested.disk, tested.check_area, sizeof tested.check_area, n);
     uint64_t b = reference.work(beside.record, sizeof beside.record, beside.area, sizeof beside.area,
-                                beside.disk, sizeof beside.disk, n);
+                                beside.disk, sizeof beside.disk, beside.check_area, sizeof beside.check_area, n);
 
     expect(a == b, "work reports another number");
     sectors += sct_work_sectors(a);
@@ -236,6 +250,7 @@ int main(int count, char **words)
     start_device(&archive, &tested);
     start_device(&reference, &beside);
     memcpy(hidden, tested.disk + VISIBLE * SCT_SECTOR_BYTES, sizeof hidden);
+    memcpy(hidden_checks, tested.check_area + VISIBLE * SCT_CHECK_BYTES, sizeof hidden_checks);
     expect_same("power-on left other bytes");
     for (size_t i = 0; i < WRITERS; i++)
         if (pthread_create(&writer[i], NULL, write_mailbox, (void *)i) != 0)

@@ -9,6 +9,7 @@
 #include <string.h>
 
 #include "bytes.h"
+#include "check.h"
 #include "implementation.h"
 #include "request.h"
 
@@ -18,6 +19,7 @@ static const struct implementation *code;
 static uint8_t device[SCT_RECORD_BYTES];
 static uint8_t area[SCT_PRIVATE_BYTES];
 static uint8_t disk[SECTORS * SCT_SECTOR_BYTES];
+static uint8_t check_area[SECTORS * SCT_CHECK_BYTES];
 static uint8_t image[3 * SCT_ENTRY_BYTES];
 static uint8_t mail[SCT_MAILBOX_BYTES];
 static unsigned wrong, tried;
@@ -37,19 +39,28 @@ static void expect(const char *what, uint64_t got, uint64_t wanted)
 static void power_on(uint64_t used)
 {
     expect("power-on", code->power_on(device, sizeof device, area, sizeof area, disk, sizeof disk,
-                                      image, sizeof image, used), SCT_DONE);
+                                      check_area, sizeof check_area, image, sizeof image, used), SCT_DONE);
+}
+
+/* Zeros, whose check is zero too. */
+static void clear_disk(void)
+{
+    memset(disk, 0, sizeof disk);
+    memset(check_area, 0, sizeof check_area);
 }
 
 static void send(uint32_t port)
 {
     expect("take", code->take(device, sizeof device, port, mail, sizeof mail, area, sizeof area), SCT_DONE);
-    expect("serve", code->serve(device, sizeof device, port, area, sizeof area, disk, sizeof disk), SCT_DONE);
+    expect("serve", code->serve(device, sizeof device, port, area, sizeof area, disk, sizeof disk,
+                                check_area, sizeof check_area), SCT_DONE);
     expect("give", code->give(device, sizeof device, port, mail, sizeof mail, area, sizeof area), SCT_DONE);
 }
 
 static uint32_t work(uint32_t n)
 {
-    uint64_t result = code->work(device, sizeof device, area, sizeof area, disk, sizeof disk, n);
+    uint64_t result = code->work(device, sizeof device, area, sizeof area, disk, sizeof disk,
+                                 check_area, sizeof check_area, n);
 
     expect("work", sct_work_answer(result), SCT_DONE);
     return sct_work_sectors(result);
@@ -63,6 +74,14 @@ static void sample(uint8_t reading)
 static void set_visible(uint64_t visible)
 {
     expect("set V", code->set_visible(device, sizeof device, visible), SCT_DONE);
+}
+
+static uint32_t repair(uint64_t lba)
+{
+    uint64_t result = code->repair(device, sizeof device, disk, sizeof disk, check_area, sizeof check_area, lba);
+
+    expect("repair", sct_repair_answer(result), SCT_DONE);
+    return sct_repair_report(result);
 }
 
 /* The status sector, read on port 3 (which stops nothing). */
@@ -110,7 +129,7 @@ static void fill_ends(uint64_t visible, uint64_t start, uint64_t count, uint8_t 
 {
     unsigned right = 0;
 
-    memset(disk, 0, sizeof disk);
+    clear_disk();
     fill_example_at(visible, start, count, 0);
     expect("code of a fill that runs", stored_code(), 0xFFFF);
     expect("flag before its end", status()[6], 0);
@@ -137,7 +156,9 @@ static void key_examples(void)
     fill_example(64, 0, 0x0002);
     fill_example(0, 63, 0);
     fill_example(1, UINT64_MAX, 0x0002);
-    key_example("action 1", 1, 1, 0, 0, 0, 0x0010);
+    key_example("action 0", 0, 1, 0, 0, 0, 0x0010);
+    key_example("action 6", 6, 1, 0, 0, 0, 0x0010);     /* W-202: "its example takes action 6" */
+    key_example("action 0101h", 0x0101, 1, 0, 0, 0, 0x0010);
     key_example("read timer 9", 3, 1, 1, 9, 0, 0x0006);
     key_example("read timer 10", 3, 1, 1, 10, 0, 0);
     key_example("read timer 0", 3, 1, 1, 0, 0, 0);
@@ -311,23 +332,684 @@ static void flag_and_image(void)
     expect("the reading at the interval is logged", mail[R_SECTOR + 34], 21);
 }
 
+/* ---- W-202: the check area ------------------------------------------------------ */
+
+static uint8_t *sector_at(unsigned lba)
+{
+    return disk + lba * SCT_SECTOR_BYTES;
+}
+
+static uint16_t stored_check(unsigned lba)
+{
+    return get16(check_area + lba * SCT_CHECK_BYTES);
+}
+
+/* 34h with these bytes of a sector, the rest zeros. */
+static void write_bytes(unsigned lba, const uint8_t *bytes, size_t count)
+{
+    build_sector(mail, true, lba, 1);
+    memcpy(mail + R_SECTOR, bytes, count);
+    send(0);
+    expect("34h", mail[R_STATUS], 0x50);
+}
+
+/* 24h: the sector, or this Error and zeros. */
+static void expect_read(const char *what, unsigned lba, uint8_t error)
+{
+    static const uint8_t zeros[SCT_SECTOR_BYTES];
+
+    build_sector(mail, false, lba, 1);
+    send(0);
+    expect(what, mail[R_ERROR], error);
+    expect(what, mail[R_STATUS], error == 0 ? 0x50 : 0x51);
+    expect(what, reply_value(mail), 0);
+    expect("data of the reply", memcmp(mail + R_SECTOR, error == 0 ? sector_at(lba) : zeros, SCT_SECTOR_BYTES) != 0, 0);
+}
+
+/*
+ * "bits 0 to 11 are the exclusive or of the positions (8 times byte plus bit)
+ * of all one bits, bit 12 is their parity, the rest 0." By hand.
+ */
+static void check_values(void)
+{
+    uint8_t bytes[SCT_SECTOR_BYTES] = { 0 };
+
+    clear_disk();
+    power_on(0);
+    write_bytes(1, bytes, sizeof bytes);
+    expect("check of zeros", stored_check(1), 0x0000);
+    bytes[0] = 0x01;
+    write_bytes(1, bytes, sizeof bytes);
+    expect("position 0 alone", stored_check(1), 0x1000);
+    bytes[0] = 0x08;
+    write_bytes(1, bytes, sizeof bytes);
+    expect("position 3 alone", stored_check(1), 0x1003);
+    expect("low byte first", check_area[2], 0x03);
+    bytes[1] = 0x20;
+    write_bytes(1, bytes, sizeof bytes);
+    expect("positions 3 and 13", stored_check(1), 0x000E);
+    bytes[511] = 0x80;
+    write_bytes(1, bytes, sizeof bytes);
+    expect("positions 3, 13 and 4095", stored_check(1), 0x1FF1);
+    bytes[0] = bytes[1] = 0;
+    write_bytes(1, bytes, sizeof bytes);
+    expect("position 4095 alone", stored_check(1), 0x1FFF);
+    memset(bytes, 0xFF, sizeof bytes);
+    write_bytes(1, bytes, sizeof bytes);
+    expect("check of all ones", stored_check(1), 0x0000);
+    expect("other check bytes", stored_check(0) | stored_check(2), 0x0000);
+}
+
+/* "Every ordinary write sets them": each sector of a fill too. */
+static void check_of_fill(void)
+{
+    uint8_t sector[SCT_SECTOR_BYTES] = { 0 };
+    unsigned right = 0;
+
+    clear_disk();
+    memset(check_area, 0xA5, sizeof check_area);
+    power_on(0);
+    set_visible(40);
+    build_fill(mail, SMART, 2, 5, 30, 0);
+    expect_key("sector fill", 0);
+    sector[2] = 0x04;       /* position 18 */
+    build_data_write(mail, SMART);
+    memcpy(mail + R_SECTOR, sector, sizeof sector);
+    send(0);
+    expect("E1h", mail[R_STATUS], 0x50);
+    expect("no check is set before the sector is written", stored_check(5), 0xA5A5);
+    expect("work", work(10), 10);
+    expect("work", work(100), 20);
+    for (unsigned i = 0; i < SECTORS; i++)
+        right += stored_check(i) == (i >= 5 && i < 35 ? 0x1012 : 0xA5A5);
+    expect("check bytes that are as they must be", right, SECTORS);
+    expect_read("a sector of the fill", 34, 0);
+    expect_read("a sector after it", 35, 0x40);
+    build_fill(mail, SMART, 1, 35, 1, 0x00000003);
+    expect_key("pattern fill", 0);
+    expect("work", work(1), 1);
+    expect("check of a pattern", stored_check(35), 0);
+    expect_read("the sector of the pattern", 35, 0);
+}
+
+/*
+ * "a read of a sector whose check differs has Error 40h, after the range
+ * check". All 16 bits count; nothing is stored, and a fill is stopped.
+ */
+static void check_differs(void)
+{
+    static const uint8_t bytes[] = { 0x12, 0x34, 0x56 };
+
+    clear_disk();
+    power_on(0);
+    write_bytes(7, bytes, sizeof bytes);
+    expect("check", stored_check(7), sector_check(sector_at(7)));
+    for (unsigned bit = 0; bit < 16; bit++) {
+        check_area[7 * SCT_CHECK_BYTES + bit / 8] ^= (uint8_t)(1u << bit % 8);
+        expect_read("a bit of the check has flipped", 7, 0x40);
+        check_area[7 * SCT_CHECK_BYTES + bit / 8] ^= (uint8_t)(1u << bit % 8);
+    }
+    expect_read("the check is right", 7, 0);
+    sector_at(7)[400] ^= 0x10;
+    expect_read("a bit of the data has flipped", 7, 0x40);
+    build_sector(mail, false, 7, 2);
+    send(0);
+    expect("count 2", mail[R_ERROR], 0x04);
+    set_visible(7);
+    expect_read("the sector is hidden", 7, 0x10);
+    set_visible(8);
+    build_fill(mail, SMART, 1, 0, 1, 0);
+    expect_key("fill", 0);
+    expect_read("the sector is shown again", 7, 0x40);
+    expect("the read has stopped the fill", stored_code(), 0x0008);
+    build_key(mail, SMART, 6, 1, 0, 0, 0);
+    expect_key("a refused key", 0x0010);
+    expect_read("and again", 7, 0x40);
+    expect("Error 40h stores nothing", stored_code(), 0x0010);
+    expect("lock", code->lock(device, sizeof device), SCT_DONE);
+    expect_read("the disk is locked", 7, 0x04);
+    expect("unlock", code->unlock(device, sizeof device), SCT_DONE);
+    write_bytes(7, bytes, sizeof bytes);
+    expect_read("the sector was written again", 7, 0);
+}
+
+/* "a check area of wrong length is answer 2"; power-on does not look at the bytes. */
+static void check_area_length(void)
+{
+    clear_disk();
+    memset(check_area, 0xFF, sizeof check_area);
+    power_on(0);
+    expect_read("check bytes that nobody has made", 0, 0x40);
+    for (size_t length = 0; length <= sizeof check_area; length++) {
+        uint32_t wanted = length == sizeof check_area ? SCT_DONE : SCT_BAD_LENGTH;
+
+        expect("power-on", code->power_on(device, sizeof device, area, sizeof area, disk, sizeof disk,
+                                          check_area, length, image, sizeof image, 0), wanted);
+        expect("work", code->work(device, sizeof device, area, sizeof area, disk, sizeof disk,
+                                  check_area, length, 1) >> 32, wanted);
+        expect("serve, slot not held", code->serve(device, sizeof device, 0, area, sizeof area, disk, sizeof disk,
+                                                   check_area, length),
+               wanted == SCT_DONE ? SCT_BAD_STAGE : SCT_BAD_LENGTH);
+        expect("repair at V", code->repair(device, sizeof device, disk, sizeof disk, check_area, length, SECTORS),
+               (uint64_t)(wanted == SCT_DONE ? SCT_BAD_VALUE : SCT_BAD_LENGTH) << 32);
+    }
+}
+
+/* ---- W-202: repair --------------------------------------------------------------- */
+
+enum { DAMAGED = 9 };
+
+/* A disk of zeros but for a sector with ones at the positions 3, 13 and 4095, whose check is 1FF1h. */
+static void start_repairs(void)
+{
+    uint8_t bytes[SCT_SECTOR_BYTES] = { 0x08, 0x20 };
+
+    bytes[511] = 0x80;
+    clear_disk();
+    power_on(0);
+    write_bytes(DAMAGED, bytes, sizeof bytes);
+    expect("check", stored_check(DAMAGED), 0x1FF1);
+}
+
+static void flip_data(unsigned position)
+{
+    sector_at(DAMAGED)[position / 8] ^= (uint8_t)(1u << position % 8);
+}
+
+static void flip_check(unsigned bit)
+{
+    check_area[DAMAGED * SCT_CHECK_BYTES + bit / 8] ^= (uint8_t)(1u << bit % 8);
+}
+
+/* This report; of the whole disk these bytes, and the check area as it was. */
+static void expect_repair(const char *what, uint32_t report, const uint8_t *wanted)
+{
+    uint8_t checks[sizeof check_area];
+
+    memcpy(checks, check_area, sizeof checks);
+    expect(what, repair(DAMAGED), report);
+    expect("sectors after it", memcmp(disk, wanted, sizeof disk) != 0, 0);
+    expect("check area after it", memcmp(check_area, checks, sizeof checks) != 0, 0);
+}
+
+/* "With sound check bytes one flipped data bit is mended and two give 2." */
+static void repair_reports(void)
+{
+    static const unsigned positions[] = { 0, 1, 7, 8, 13, 1234, 2048, 4094, 4095 };
+    enum { POSITIONS = sizeof positions / sizeof positions[0] };
+    uint8_t right[sizeof disk], flipped[sizeof disk];
+
+    start_repairs();
+    memcpy(right, disk, sizeof disk);
+    expect_repair("check equal", 0, right);
+    for (unsigned i = 0; i < POSITIONS; i++) {
+        flip_data(positions[i]);
+        expect_read("one bit has flipped", DAMAGED, 0x40);
+        expect_repair("one bit has flipped", 1, right);
+        expect_repair("and is right again", 0, right);
+        expect_read("it can be read", DAMAGED, 0);
+        flip_data(positions[i]);
+        flip_data(positions[(i + 1) % POSITIONS]);
+        memcpy(flipped, disk, sizeof disk);
+        expect_repair("two bits have flipped", 2, flipped);
+        expect_repair("and stay so", 2, flipped);
+        memcpy(disk, right, sizeof disk);
+    }
+}
+
+/* The check bytes themselves are damaged: they are never written. */
+static void repair_with_wrong_check(void)
+{
+    uint8_t right[sizeof disk], flipped[sizeof disk];
+
+    start_repairs();
+    memcpy(right, disk, sizeof disk);
+    for (unsigned bit = 0; bit < 16; bit++) {
+        if (bit == 12)
+            continue;
+        flip_check(bit);
+        expect_repair("a bit of the check has flipped, but not bit 12", 2, right);
+        flip_check(bit);
+    }
+    for (unsigned bit = 13; bit < 16; bit++) {
+        flip_check(bit);
+        flip_data(100);
+        memcpy(flipped, disk, sizeof disk);
+        expect_repair("a bit of the data, and one of 13 to 15", 2, flipped);
+        flip_data(100);
+        flip_check(bit);
+    }
+    flip_check(12);         /* looks like a flipped bit at position 0 */
+    memcpy(flipped, right, sizeof disk);
+    flipped[DAMAGED * SCT_SECTOR_BYTES] ^= 0x01;
+    expect_repair("bit 12 alone has flipped", 1, flipped);
+    expect_repair("and the check is equal", 0, flipped);
+    memcpy(disk, right, sizeof disk);
+    flip_check(5);          /* and this like one at position 32 */
+    memcpy(flipped, right, sizeof disk);
+    flipped[DAMAGED * SCT_SECTOR_BYTES + 4] ^= 0x01;
+    expect_repair("bits 12 and 5 have flipped", 1, flipped);
+    expect_repair("and the check is equal", 0, flipped);
+}
+
+/* "only 1 alters a sector, and it clears the flag." */
+static void repair_and_flag(void)
+{
+    start_repairs();
+    build_fill(mail, SMART, 1, 0, 0, 0);
+    expect_key("fill of all", 0);
+    expect("work", work(0xFFFFFFFF), SECTORS);
+    expect("report", repair(DAMAGED), 0);
+    expect("flag after report 0", status()[6], 1);
+    flip_check(3);
+    expect("report", repair(DAMAGED), 2);
+    expect("flag after report 2", status()[6], 1);
+    flip_check(3);
+    flip_data(4000);
+    expect("report", repair(DAMAGED), 1);
+    expect("flag after report 1", status()[6], 0);
+}
+
+/* "The step first stops a fill and drops an owed transfer, as setting V does." */
+static void repair_stops(void)
+{
+    for (uint32_t report = 0; report < 3; report++) {
+        start_repairs();
+        build_fill(mail, SMART, 1, 20, 20, 0);
+        expect_key("fill", 0);
+        expect("work", work(5), 5);
+        for (uint32_t i = 0; i < report; i++)
+            flip_data(i);
+        expect("report", repair(DAMAGED), report);
+        expect("code of a stopped fill", stored_code(), 0x0008);
+        expect("work after it", work(5), 0);
+
+        start_repairs();
+        build_fill(mail, SMART, 2, 20, 20, 0);
+        expect_key("sector fill", 0);
+        for (uint32_t i = 0; i < report; i++)
+            flip_data(i);
+        expect("report", repair(DAMAGED), report);
+        build_data_write(mail, SMART);
+        send(0);
+        expect("E1h after a repair", reply_value(mail), 0x000B);
+    }
+}
+
+/* A repair that answers this, reports 0 and changes no byte. */
+static void expect_refused_repair(const char *what, uint64_t lba, uint32_t wanted)
+{
+    uint8_t old_device[sizeof device], old_disk[sizeof disk], old_checks[sizeof check_area];
+
+    memcpy(old_device, device, sizeof device);
+    memcpy(old_disk, disk, sizeof disk);
+    memcpy(old_checks, check_area, sizeof check_area);
+    expect(what, code->repair(device, sizeof device, disk, sizeof disk, check_area, sizeof check_area, lba),
+           (uint64_t)wanted << 32);
+    expect(what, memcmp(device, old_device, sizeof device) != 0 || memcmp(disk, old_disk, sizeof disk) != 0 ||
+                 memcmp(check_area, old_checks, sizeof check_area) != 0, 0);
+}
+
+/* "mending at or above V is answer 5, and a refused mending reports 0". The lock does not matter to the owner. */
+static void repair_refused(void)
+{
+    start_repairs();
+    flip_data(77);
+    set_visible(DAMAGED);
+    build_fill(mail, SMART, 1, 0, 0, 0);
+    expect_key("fill", 0);
+    expect_refused_repair("repair at V", DAMAGED, SCT_BAD_VALUE);
+    expect_refused_repair("repair above V", DAMAGED + 1, SCT_BAD_VALUE);
+    expect_refused_repair("repair at N", SECTORS, SCT_BAD_VALUE);
+    expect_refused_repair("repair at 2^32", (uint64_t)1 << 32, SCT_BAD_VALUE);
+    expect_refused_repair("repair at 2^64 - 1", UINT64_MAX, SCT_BAD_VALUE);
+    expect("code, the fill runs on", stored_code(), 0xFFFF);
+    expect("work", work(100), DAMAGED);
+    set_visible(DAMAGED + 1);
+    expect("lock", code->lock(device, sizeof device), SCT_DONE);
+    expect("report on a locked disk", repair(DAMAGED), 1);
+    expect("unlock", code->unlock(device, sizeof device), SCT_DONE);
+    expect_read("it can be read", DAMAGED, 0);
+    device[19] = 1;         /* a spare byte */
+    expect_refused_repair("repair with an unsound record, at V", DAMAGED + 1, SCT_BAD_RECORD);
+}
+
+/* ---- W-202: Long Sector Access ---------------------------------------------------- */
+
+enum { LONG_LBA = 21 };
+
+/* Bytes of a sector, then two check bytes that are not its own, then bytes that don't matter. */
+static uint8_t sent[SCT_DATA_BYTES];
+
+static void choose_sent(uint16_t check)
+{
+    for (size_t i = 0; i < sizeof sent; i++)
+        sent[i] = (uint8_t)(7 * i + i / 256 + 1);
+    put16(sent + SCT_SECTOR_BYTES, check);
+}
+
+/* The reply has Status 50h and this data, then zeros, and no other byte. */
+static void expect_reply(const char *what, const uint8_t *data, size_t bytes)
+{
+    uint8_t wanted[SCT_MAILBOX_BYTES] = { 0 };
+
+    wanted[R_STATUS] = 0x50;
+    if (bytes != 0)
+        memcpy(wanted + R_SECTOR, data, bytes);
+    expect(what, memcmp(mail, wanted, sizeof mail) != 0, 0);
+}
+
+/* "either key's reply has 2 in Sector Count and LBA Mid." */
+static void ask_long(uint16_t function, uint64_t lba)
+{
+    uint8_t wanted[SCT_MAILBOX_BYTES] = { 0 };
+
+    wanted[R_STATUS] = 0x50;
+    wanted[R_COUNT] = wanted[R_MID] = 2;
+    build_long(mail, SMART, function, lba);
+    memset(mail + R_SECTOR + 12, 0xC3, SCT_DATA_BYTES - 12);
+    send(0);
+    expect("reply to a Long key", memcmp(mail, wanted, sizeof mail) != 0, 0);
+}
+
+static void write_long(uint64_t lba)
+{
+    ask_long(2, lba);
+    build_long_write(mail, SMART);
+    memcpy(mail + R_SECTOR, sent, sizeof sent);
+    send(0);
+    expect_reply("Write Long", NULL, 0);
+}
+
+/* The sector and its check bytes as they are, "zeros behind". */
+static void expect_read_long(unsigned lba)
+{
+    uint8_t wanted[SCT_SECTOR_BYTES + SCT_CHECK_BYTES];
+
+    memcpy(wanted, sector_at(lba), SCT_SECTOR_BYTES);
+    put16(wanted + SCT_SECTOR_BYTES, stored_check(lba));
+    ask_long(1, lba);
+    build_long_read(mail, LOG_EXT);
+    memset(mail + R_SECTOR, 0xC3, SCT_DATA_BYTES);
+    send(0);
+    expect_reply("Read Long", wanted, sizeof wanted);
+}
+
+static void long_key_example(uint64_t visible, uint16_t function, uint64_t lba, uint16_t wanted)
+{
+    char what[96];
+
+    snprintf(what, sizeof what, "V %llu, Long, function %u, LBA %llXh", (unsigned long long)visible, function,
+             (unsigned long long)lba);
+    power_on(0);
+    set_visible(visible);
+    build_long(mail, LOG_EXT, function, lba);
+    expect_key(what, wanted);
+    expect(what, mail[R_MID], wanted == 0 ? 2 : 0);
+    expect(what, stored_code(), wanted);
+    expect(what, get16(status() + 16), 1);
+    expect(what, get16(status() + 18), function);
+}
+
+/* "functions 1 (read) and 2 (write), LBA in words 2 to 5"; "function 000Ah, LBA 0002h after it". */
+static void long_keys(void)
+{
+    for (uint16_t function = 1; function <= 2; function++) {
+        long_key_example(64, function, 0, 0);
+        long_key_example(64, function, 63, 0);
+        long_key_example(64, function, 64, 0x0002);
+        long_key_example(32, function, 31, 0);
+        long_key_example(32, function, 32, 0x0002);
+        for (unsigned bit = 6; bit < 64; bit++)
+            long_key_example(64, function, (uint64_t)1 << bit, 0x0002);
+        long_key_example(64, function, UINT64_MAX, 0x0002);
+    }
+    long_key_example(64, 0, 0, 0x000A);
+    long_key_example(64, 3, 0, 0x000A);
+    long_key_example(64, 0x0101, 0, 0x000A);
+    long_key_example(64, 3, 64, 0x000A);
+    power_on(0);
+    expect("lock", code->lock(device, sizeof device), SCT_DONE);
+    build_long(mail, SMART, 3, 64);
+    expect_key("Long key under the lock", 0x0012);
+}
+
+/* An E1h after a key gets this code; after any refusal the transfer is gone. */
+static void transfer_example(const char *what, enum form form, bool write, uint16_t count, uint16_t wanted)
+{
+    build_log(mail, form, write, 0xE1, count);
+    expect_key(what, wanted);
+    expect(what, stored_code(), wanted);
+    build_log(mail, form, write, 0xE1, count);
+    expect_key("nothing is pending any more", 0x000B);
+}
+
+/* "E1h wants count 2 for it and 1 for the others." */
+static void long_counts(void)
+{
+    static const uint16_t wrong_counts[] = { 0, 1, 3, 255, 0x0102, 0x0201, 0xFFFF };
+
+    clear_disk();
+    power_on(0);
+    for (uint16_t function = 1; function <= 2; function++) {
+        bool write = function == 2;
+
+        for (size_t i = 0; i < sizeof wrong_counts / sizeof wrong_counts[0]; i++) {
+            ask_long(function, LONG_LBA);
+            transfer_example("Long transfer, a wrong count", LOG_EXT, write, wrong_counts[i], 0x0003);
+        }
+        ask_long(function, LONG_LBA);
+        transfer_example("Long transfer, count 2", LOG_EXT, write, 2, 0);
+        ask_long(function, LONG_LBA);
+        transfer_example("B0h, whose previous bytes are ignored", SMART, write, 0x0102, 0);
+        ask_long(function, LONG_LBA);
+        transfer_example("the other direction", SMART, !write, 2, 0x000B);
+        ask_long(function, LONG_LBA);
+        transfer_example("the other direction, count 1", SMART, !write, 1, 0x000B);
+    }
+    build_fill(mail, SMART, 2, 5, 2, 0);
+    expect_key("sector fill", 0);
+    transfer_example("sector fill, count 2", SMART, true, 2, 0x0003);
+    build_key(mail, SMART, 5, 1, 2, 0, 0);
+    expect_key("table", 0);
+    transfer_example("table, count 2", SMART, false, 2, 0x0003);
+}
+
+/* "Write Long stores what it is sent, without judging it"; "Read Long sends the two check bytes as stored". */
+static void long_there_and_back(void)
+{
+    static const uint16_t checks[] = { 0x0000, 0x1234, 0xFFFF, 0xE000, 0x8000 };
+    uint8_t wanted[sizeof disk], wanted_checks[sizeof check_area];
+
+    clear_disk();
+    power_on(0);
+    for (size_t i = 0; i < sizeof checks / sizeof checks[0]; i++) {
+        memset(wanted, 0, sizeof wanted);
+        memset(wanted_checks, 0, sizeof wanted_checks);
+        choose_sent(checks[i]);
+        memcpy(wanted + LONG_LBA * SCT_SECTOR_BYTES, sent, SCT_SECTOR_BYTES);
+        put16(wanted_checks + LONG_LBA * SCT_CHECK_BYTES, checks[i]);
+        write_long(LONG_LBA);
+        expect("disk after Write Long", memcmp(disk, wanted, sizeof disk) != 0, 0);
+        expect("check area after Write Long", memcmp(check_area, wanted_checks, sizeof check_area) != 0, 0);
+        expect("code", stored_code(), 0);
+        expect_read_long(LONG_LBA);
+        expect("code", stored_code(), 0);
+        expect_read("24h", LONG_LBA, 0x40);
+    }
+    choose_sent(sector_check(sent));
+    write_long(LONG_LBA);
+    expect_read_long(LONG_LBA);
+    expect_read("24h, with the check of the data", LONG_LBA, 0);
+    write_long(0);
+    write_long(SECTORS - 1);
+    expect_read_long(SECTORS - 1);
+}
+
+/* "We check our scrubbing by damaging sectors." */
+static void long_and_repair(void)
+{
+    uint16_t right;
+
+    clear_disk();
+    power_on(0);
+    choose_sent(0);
+    right = sector_check(sent);
+    choose_sent(right);
+    sent[300] ^= 0x40;          /* one bit, position 2406 */
+    write_long(LONG_LBA);
+    expect_read("one bit is wrong", LONG_LBA, 0x40);
+    expect("report", repair(LONG_LBA), 1);
+    sent[300] ^= 0x40;
+    expect("the bit is right", memcmp(sector_at(LONG_LBA), sent, SCT_SECTOR_BYTES) != 0, 0);
+    expect_read("it can be read", LONG_LBA, 0);
+    choose_sent(right ^ 0x2000);
+    write_long(LONG_LBA);
+    expect("bit 13 of the check is wrong", repair(LONG_LBA), 2);
+    choose_sent(right ^ 0x1966);
+    write_long(LONG_LBA);
+    expect("the check is that of the data with bit 2406 flipped", repair(LONG_LBA), 1);
+    sent[300] ^= 0x40;
+    expect("so it was flipped", memcmp(sector_at(LONG_LBA), sent, SCT_SECTOR_BYTES) != 0, 0);
+    expect_read_long(LONG_LBA);
+}
+
+/* "The Segment Initialized flag is cleared by any sector written": by Write Long too, by Read Long not. */
+static void long_and_flag(void)
+{
+    clear_disk();
+    power_on(0);
+    build_fill(mail, SMART, 1, 0, 0, 0);
+    expect_key("fill of all", 0);
+    expect("work", work(0xFFFFFFFF), SECTORS);
+    expect_read_long(LONG_LBA);
+    expect("flag after Read Long", status()[6], 1);
+    memset(sent, 0, sizeof sent);
+    ask_long(2, LONG_LBA);
+    expect("flag after the key of Write Long", status()[6], 1);
+    write_long(LONG_LBA);
+    expect("flag after Write Long, though the bytes are the old ones", status()[6], 0);
+}
+
+/* What keeps a pending Long transfer, and what drops it. */
+static void long_pending(void)
+{
+    clear_disk();
+    power_on(0);
+    ask_long(1, LONG_LBA);
+    expect("code while it is pending", stored_code(), 0);
+    sample(25);
+    disk[LONG_LBA * SCT_SECTOR_BYTES] = 0x77;       /* as it stands at the E1h */
+    build_long_read(mail, SMART);
+    send(0);
+    expect("it was pending after a status read and a sample", mail[R_SECTOR], 0x77);
+    ask_long(1, LONG_LBA);
+    build_long_read(mail, SMART);
+    send(1);
+    expect("E1h of another port", reply_value(mail), 0x000B);
+    ask_long(1, LONG_LBA);
+    expect("report", repair(0), 0);
+    transfer_example("after a repair", SMART, false, 2, 0x000B);
+    ask_long(1, LONG_LBA);
+    set_visible(SECTORS);
+    transfer_example("after setting V", SMART, false, 2, 0x000B);
+    ask_long(2, LONG_LBA);
+    build_sector(mail, false, 0, 1);
+    send(3);
+    transfer_example("after a read of another port", SMART, true, 2, 0x000B);
+    build_fill(mail, SMART, 1, 0, 0, 0);
+    expect_key("fill of all", 0);
+    ask_long(1, LONG_LBA);
+    expect("work, the key has stopped the fill", work(9), 0);
+}
+
+/* Only a Long transfer uses the second sector. */
+static void second_sector(void)
+{
+    uint8_t junk[SCT_DATA_BYTES];
+
+    clear_disk();
+    power_on(0);
+    memset(junk, 0x99, sizeof junk);
+    build_sector(mail, true, 3, 1);
+    memcpy(mail + R_SECTOR, junk, sizeof junk);
+    send(0);
+    expect_reply("34h", NULL, 0);
+    expect("sector after it", disk[4 * SCT_SECTOR_BYTES], 0);
+    build_sector(mail, false, 3, 1);
+    memcpy(mail + R_SECTOR, junk, sizeof junk);
+    send(0);
+    expect_reply("24h", junk, SCT_SECTOR_BYTES);
+    build_fill(mail, SMART, 2, 5, 1, 0);
+    memset(mail + R_SECTOR + SCT_SECTOR_BYTES, 0x99, SCT_SECTOR_BYTES);
+    expect_key("sector fill", 0);
+    expect("second sector of the reply", mail[R_CHECK], 0);
+    build_data_write(mail, SMART);
+    memcpy(mail + R_SECTOR, junk, sizeof junk);
+    send(0);
+    expect_reply("E1h", NULL, 0);
+    build_command(mail, 0xEC);
+    memcpy(mail + R_SECTOR, junk, sizeof junk);
+    send(0);
+    expect("second sector of a refusal", get64(mail + R_CHECK), 0);
+}
+
+/* "In a sound record an owed Long transfer has its LBA below V." Port 0: kind at 73, LBA at 80, end at 88. */
+static void long_records(void)
+{
+    static const struct { uint8_t kind; uint64_t lba, end; uint32_t answer; } records[] = {
+        { 3, 0, 0, SCT_DONE }, { 3, 31, 0, SCT_DONE }, { 3, 32, 0, SCT_BAD_RECORD }, { 3, 33, 0, SCT_BAD_RECORD },
+        { 3, 63, 0, SCT_BAD_RECORD }, { 3, UINT64_MAX, 0, SCT_BAD_RECORD }, { 3, 31, 32, SCT_BAD_RECORD },
+        { 4, 0, 0, SCT_DONE }, { 4, 31, 0, SCT_DONE }, { 4, 32, 0, SCT_BAD_RECORD },
+        { 4, (uint64_t)1 << 32, 0, SCT_BAD_RECORD }, { 4, 31, 1, SCT_BAD_RECORD },
+        { 5, 0, 0, SCT_BAD_RECORD }, { 5, 31, 0, SCT_BAD_RECORD }, { 1, 31, 0, SCT_BAD_RECORD },
+        { 0, 31, 0, SCT_BAD_RECORD }
+    };
+
+    for (size_t i = 0; i < sizeof records / sizeof records[0]; i++) {
+        power_on(0);
+        set_visible(32);
+        device[73] = records[i].kind;
+        put64(device + 80, records[i].lba);
+        put64(device + 88, records[i].end);
+        expect("record with a pending transfer", code->sample(device, sizeof device, 20), records[i].answer);
+    }
+}
+
 static void run(const struct implementation *implementation)
 {
     code = implementation;
-    memset(disk, 0, sizeof disk);
+    clear_disk();
     key_examples();
     fill_by_count();
     sector_fill_by_count();
     temperature_example();
     work_example();
-    memset(disk, 0, sizeof disk);
+    clear_disk();
     stopped_fill();
     another_port();
-    memset(disk, 0, sizeof disk);
+    clear_disk();
     right_port();
     shrunk_disk();
     locked_disk();
     flag_and_image();
+    check_values();
+    check_of_fill();
+    check_differs();
+    check_area_length();
+    repair_reports();
+    repair_with_wrong_check();
+    repair_and_flag();
+    repair_stops();
+    repair_refused();
+    long_keys();
+    long_counts();
+    long_there_and_back();
+    long_and_repair();
+    long_and_flag();
+    long_pending();
+    second_sector();
+    long_records();
 }
 
 int main(void)

@@ -2,13 +2,15 @@
  * reference.c - a plain reading of the scope paper, to test the archive
  * against, and to be read along with the paper.
  *
- * It has the archive's ten entries (prefix ref_) over the archive's buffers,
+ * It has the archive's eleven entries (prefix ref_) over the archive's buffers,
  * and gives the same bytes. Each section quotes the sentences it follows; one
  * of a change request has the request's number before it. The offsets in the
  * record are those of docs/record-layout.md.
  *
- * Two of the paper's words have other names here: an "owed" transfer is a
- * pending transfer, and a feature with a "mark" is persistent.
+ * Three of the papers' words have other names here: an "owed" transfer is a
+ * pending transfer, a feature with a "mark" is persistent, and mending a sector
+ * is repair. The paper's disk is, since W-202, two buffers: the sectors and the
+ * check area.
  *
  * The entries are at the end, in the order of sct_disk.h. Each opens the
  * record into a struct, refuses in the paper's order, decides, and writes the
@@ -49,6 +51,29 @@
  *  23   the history wraps one reading early
  *  24   only 32 bits of a sector's LBA are compared
  *  25   Start + Count above the last user LBA is refused (the rule before W-201)
+ *  26   34h leaves the check bytes as they were
+ *  27   the positions of a check are eight too high
+ *  28   a check has no parity
+ *  29   Error 40h comes before Error 10h
+ *  30   a fill sets the check bytes of the first sector of each work only
+ *  31   a read does not look at bits 13 to 15 of a check
+ *  32   repair neither stops a fill nor drops a pending transfer
+ *  33   repair flips a bit and leaves the flag
+ *  34   repair judges its LBA by N
+ *  35   repair does not look at bits 13 to 15 of a check
+ *  36   repair reports 2 where bit 12 alone differs
+ *  37   repair that reports 0 does not stop a fill
+ *  38   repair that is refused for its LBA stops a fill
+ *  39   E1h takes count 1, too, for a Long transfer
+ *  40   Write Long stores the check of its data instead of what it is sent
+ *  41   the LBA of a Long key is judged before its function
+ *  42   Read Long of a sector whose check differs has Error 40h
+ *  43   in a record the LBA of a pending Long transfer is not judged
+ *  44   Write Long leaves the flag
+ *  45   Read Long sends the check of the data instead of the stored one
+ *  46   bytes of the request stay behind the check bytes that Read Long sends
+ *  47   Write Long clears bits 13 to 15 of the check that it is sent
+ *  48   the second sector of a request stays in a reply of one sector
  */
 #ifdef PLANT
 #define PLANTED(n) (PLANT == (n))
@@ -146,7 +171,7 @@ static bool all_zero(const uint8_t *at, size_t count)
 
 enum stage { EMPTY, HELD, ANSWERED, STAGES };
 
-enum transfer { NO_TRANSFER, SEND_TABLE, RECEIVE_FILL_SECTOR, TRANSFERS };
+enum transfer { NO_TRANSFER, SEND_TABLE, RECEIVE_FILL_SECTOR, SEND_LONG, RECEIVE_LONG, TRANSFERS };
 
 enum { READ_TIMER, WRITE_TIMER, TIMERS };
 
@@ -155,7 +180,7 @@ enum { WRITE_CACHE, REORDERING, LOG_INTERVAL, FEATURES };
 struct port {
     uint8_t  stage;
     uint8_t  pending;           /* pending transfer of this port */
-    uint64_t first, end;        /* of a pending fill, else 0 */
+    uint64_t first, end;        /* of a pending fill; first is a Long transfer's LBA; else 0 */
 };
 
 struct device {
@@ -197,7 +222,10 @@ enum {
     TABLE_SIZE = 30, TABLE_INDEX = 32, TABLE_HISTORY = 34, HISTORY_SIZE = 478
 };
 
-/* The private area: "four slots of 528, then the fill sector". */
+/*
+ * The private area: "four slots of 528, then the fill sector". W-202:
+ * "mailboxes and slots grow to 1,040 bytes, the private area to 4,672".
+ */
 #define SLOT(area, number)  ((area) + (size_t)SCT_MAILBOX_BYTES * (number))
 #define FILL_SECTOR(area)   ((area) + (size_t)SCT_MAILBOX_BYTES * SCT_PORTS)
 
@@ -363,6 +391,59 @@ static void take_sample(struct device *d, uint8_t *table, uint8_t reading)
 }
 
 /* ======================================================================== */
+/* The check of a sector (W-202)                                            */
+/* ======================================================================== */
+
+/* Both buffers of the disk. */
+struct disk {
+    uint8_t *sectors;
+    uint8_t *check_area;    /* "a lent check area, two bytes a sector" */
+};
+
+static uint8_t *sector_at(struct disk disk, uint64_t lba)
+{
+    return disk.sectors + lba * SCT_SECTOR_BYTES;
+}
+
+static uint8_t *check_at(struct disk disk, uint64_t lba)
+{
+    return disk.check_area + lba * SCT_CHECK_BYTES;
+}
+
+/*
+ * "bits 0 to 11 are the exclusive or of the positions (8 times byte plus bit)
+ * of all one bits, bit 12 is their parity, the rest 0."
+ */
+static uint16_t check_of(const uint8_t *sector)
+{
+    unsigned positions = 0, parity = 0;
+
+    for (unsigned byte = 0; byte < SCT_SECTOR_BYTES; byte++) {
+        for (unsigned bit = 0; bit < 8; bit++) {
+            if ((sector[byte] >> bit & 1) == 0)
+                continue;
+            positions ^= 8 * byte + bit + (PLANTED(27) ? 8 : 0);
+            parity ^= 1;
+        }
+    }
+    return (uint16_t)((positions & 0xFFF) | (PLANTED(28) ? 0 : parity << 12));
+}
+
+/* What the check bytes and the right check differ in; 0: "check equal". */
+static uint16_t check_difference(const uint8_t *sector, const uint8_t *check)
+{
+    return load16(check) ^ check_of(sector);
+}
+
+/* "a sector whose check differs": all 16 bits are compared. */
+static bool check_differs(struct disk disk, uint64_t lba)
+{
+    uint16_t difference = check_difference(sector_at(disk, lba), check_at(disk, lba));
+
+    return (difference & (PLANTED(31) ? 0x1FFF : 0xFFFF)) != 0;
+}
+
+/* ======================================================================== */
 /* Sound records                                                            */
 /* ======================================================================== */
 
@@ -374,14 +455,21 @@ static bool fill_sound(const struct device *d)
     return d->first == 0 && d->next == 0 && d->end == 0;
 }
 
-/* "an owed fill has first < end <= V" */
-static bool port_sound(const struct device *d, const struct port *port)
+/*
+ * "an owed fill has first < end <= V"; W-202: "In a sound record an owed Long
+ * transfer has its LBA below V."
+ */
+static bool pending_sound(const struct device *d, const struct port *port)
 {
-    if (port->stage >= STAGES || port->pending >= TRANSFERS)
-        return false;
-    if (port->pending == RECEIVE_FILL_SECTOR)
+    switch (port->pending) {
+    case RECEIVE_FILL_SECTOR:
         return port->first < port->end && port->end <= d->visible;
-    return port->first == 0 && port->end == 0;
+    case SEND_LONG:
+    case RECEIVE_LONG:
+        return (port->first < d->visible || PLANTED(43)) && port->end == 0;
+    default:
+        return port->pending < TRANSFERS && port->first == 0 && port->end == 0;
+    }
 }
 
 /* "a fill and an owed transfer never coexist", nor do two transfers. */
@@ -390,7 +478,7 @@ static bool ports_sound(const struct device *d)
     unsigned busy = d->filling;
 
     for (unsigned p = 0; p < SCT_PORTS; p++) {
-        if (!port_sound(d, &d->port[p]))
+        if (d->port[p].stage >= STAGES || !pending_sound(d, &d->port[p]))
             return false;
         busy += d->port[p].pending != NO_TRANSFER;
     }
@@ -504,24 +592,31 @@ static void end_fill(struct device *d)
     clear_fill(d);
 }
 
-static void write_sector(struct device *d, uint8_t *disk, uint64_t lba, const uint8_t *sector)
+/* The two bytes in the check area are given by the caller. */
+static void write_sector(struct device *d, struct disk disk, uint64_t lba, const uint8_t *sector, uint16_t check)
 {
-    memcpy(disk + lba * SCT_SECTOR_BYTES, sector, SCT_SECTOR_BYTES);
+    memcpy(sector_at(disk, lba), sector, SCT_SECTOR_BYTES);
+    store16(check_at(disk, lba), check);
     d->initialized = 0;     /* "cleared by any sector written" */
 }
 
 /*
  * "Work writes the fill's sector to the k places from next on and moves next
  * by k, where k is the lesser of n and end - next (0 with no fill); at end the
- * fill is over."
+ * fill is over." W-202: "Every ordinary write sets them", the check bytes; all
+ * sectors of a fill have the same.
  */
-static uint32_t advance_fill(struct device *d, uint8_t *disk, const uint8_t *sector, uint32_t n)
+static uint32_t advance_fill(struct device *d, struct disk disk, const uint8_t *sector, uint32_t n)
 {
     uint64_t left = d->end - d->next;
     uint32_t k = n < left ? n : (uint32_t)left;
+    uint16_t check = k == 0 ? 0 : check_of(sector);
 
-    for (uint32_t i = 0; i < k; i++)
-        write_sector(d, disk, d->next + i, sector);
+    for (uint32_t i = 0; i < k; i++) {
+        uint64_t lba = d->next + i;
+
+        write_sector(d, disk, lba, sector, PLANTED(30) && i > 0 ? load16(check_at(disk, lba)) : check);
+    }
     d->next += k;
     if (d->filling && d->next == d->end)
         end_fill(d);
@@ -628,35 +723,42 @@ static struct request read_registers(const uint8_t *registers)
     }
 }
 
-#define ABORTED       0x04u
-#define ID_NOT_FOUND  0x10u
+#define ABORTED        0x04u
+#define ID_NOT_FOUND   0x10u
+#define UNCORRECTABLE  0x40u
 
 struct reply {
     uint8_t  error;     /* 0: good */
     uint16_t value;     /* "in Sector Count (low) and LBA Low (high)" */
     uint8_t  sectors;   /* "LBA Mid is 1 if a sector is owed" */
-    bool     data;      /* the slot's sector is already the reply's */
+    uint16_t data;      /* so many bytes of the slot's data are already the reply's */
 };
 
 static struct reply good(uint16_t value)
 {
-    return (struct reply){ 0, value, 0, false };
+    return (struct reply){ 0, value, 0, 0 };
 }
 
-static struct reply good_with_data(void)
+static struct reply good_with_data(uint16_t bytes)
 {
-    return (struct reply){ 0, 0, 0, true };
+    return (struct reply){ 0, 0, 0, bytes };
 }
 
 static struct reply good_with_transfer(void)
 {
-    return (struct reply){ 0, 0, 1, false };
+    return (struct reply){ 0, 0, 1, 0 };
+}
+
+/* W-202: "either key's reply has 2 in Sector Count and LBA Mid." */
+static struct reply good_with_long_transfer(void)
+{
+    return (struct reply){ 0, 2, 2, 0 };
 }
 
 /* A refusal without an extended code. */
 static struct reply refused(uint8_t error)
 {
-    return (struct reply){ error, 0, 0, false };
+    return (struct reply){ error, 0, 0, 0 };
 }
 
 /*
@@ -665,7 +767,7 @@ static struct reply refused(uint8_t error)
  */
 static struct reply sct_refused(uint16_t code)
 {
-    return (struct reply){ ABORTED, code, 0, false };
+    return (struct reply){ ABORTED, code, 0, 0 };
 }
 
 /* The same, and the code is stored. */
@@ -673,6 +775,14 @@ static struct reply sct_refused_stored(struct device *d, uint16_t code)
 {
     d->code = code;
     return sct_refused(code);
+}
+
+/* Leaves what should become zeros. */
+static size_t planted_end(struct reply reply)
+{
+    if (PLANTED(46) && reply.data > SCT_SECTOR_BYTES)
+        return reply.data;
+    return PLANTED(48) && reply.data <= SCT_SECTOR_BYTES ? SCT_SECTOR_BYTES : SCT_DATA_BYTES;
 }
 
 /*
@@ -687,8 +797,7 @@ static void write_reply(uint8_t *slot, struct reply reply)
     slot[MID_NOW] = reply.sectors;
     slot[STATUS] = reply.error ? 0x51 : 0x50;
     slot[ERROR] = reply.error;
-    if (!reply.data)
-        memset(slot + SCT_REGISTER_BYTES, 0, SCT_SECTOR_BYTES);
+    memset(slot + SCT_REGISTER_BYTES + reply.data, 0, planted_end(reply) - reply.data);
 }
 
 /* What one serve works on. */
@@ -696,9 +805,10 @@ struct service {
     struct device *device;
     uint8_t       *table;           /* the temperature table in the record */
     uint8_t       *slot;            /* the request, later the reply */
-    uint8_t       *sector;          /* the sector in the slot */
+    uint8_t       *sector;          /* the first sector in the slot */
+    uint8_t       *long_check;      /* the two bytes behind it, check bytes in a Long transfer */
     uint8_t       *fill_sector;
-    uint8_t       *disk;
+    struct disk    disk;
     struct port   *port;
     struct port    before;          /* the port as it was before the request */
 };
@@ -711,17 +821,18 @@ struct service {
 enum {
     BAD_FUNCTION = 0x0001, BAD_RANGE = 0x0002, BAD_TRANSFER_COUNT = 0x0003,
     BAD_TIMER_FUNCTION = 0x0004, BAD_TIMER = 0x0005, BAD_READ_TIMER = 0x0006, BAD_WRITE_TIMER = 0x0007,
-    NO_TRANSFER_PENDING = 0x000B, BAD_FEATURE_FUNCTION = 0x000C, BAD_FEATURE = 0x000D,
+    BAD_LONG_FUNCTION = 0x000A, NO_TRANSFER_PENDING = 0x000B, BAD_FEATURE_FUNCTION = 0x000C, BAD_FEATURE = 0x000D,
     BAD_STATE = 0x000E, BAD_OPTION = 0x000F, BAD_ACTION = 0x0010, BAD_TABLE = 0x0011, LOCKED = 0x0012
 };
 
-enum { FILL = 2, TIMER = 3, FEATURE = 4, TABLE = 5 };           /* actions */
-enum { FILL_PATTERN = 1, FILL_SECTOR = 2 };                     /* functions */
+enum { LONG = 1, FILL = 2, TIMER = 3, FEATURE = 4, TABLE = 5 }; /* actions */
+enum { LONG_READ = 1, LONG_WRITE = 2 };                         /* functions */
+enum { FILL_PATTERN = 1, FILL_SECTOR = 2 };
 enum { TIMER_SET = 1, TIMER_RETURN = 2 };
 enum { FEATURE_SET = 1, FEATURE_STATE = 2, FEATURE_OPTIONS = 3 };
 
-/* "Start bytes 4-11, Count 12-19", "bytes 20-23 repeated 128 times". */
-enum { KEY_START = 4, KEY_COUNT = 12, KEY_PATTERN = 20, PATTERN_BYTES = 4 };
+/* "Start bytes 4-11, Count 12-19", "bytes 20-23 repeated 128 times"; W-202: "LBA in words 2 to 5". */
+enum { KEY_LBA = 4, KEY_START = 4, KEY_COUNT = 12, KEY_PATTERN = 20, PATTERN_BYTES = 4 };
 
 static uint16_t word(const uint8_t *key, int number)
 {
@@ -729,6 +840,19 @@ static uint16_t word(const uint8_t *key, int number)
 }
 
 /* Each judge_ function gives the code of the refusal, or 0: accepted. */
+
+/* W-202: "functions 1 (read) and 2 (write)", "function 000Ah, LBA 0002h after it". */
+static uint16_t judge_long(const struct device *d, const uint8_t *key)
+{
+    uint16_t function = word(key, 1);
+    bool outside = load64(key + KEY_LBA) >= d->visible;
+
+    if (PLANTED(41) && outside)
+        return BAD_RANGE;
+    if (function != LONG_READ && function != LONG_WRITE)
+        return BAD_LONG_FUNCTION;
+    return outside ? BAD_RANGE : 0;
+}
 
 /*
  * "Start + Count is a whole-number sum; it never wraps": so Count is compared
@@ -815,18 +939,26 @@ static uint16_t judge_table(const uint8_t *key)
     return word(key, 2) == 2 ? 0 : BAD_TABLE;
 }
 
-/* "any, locked: 0012h", "not 2 to 5: 0010h" */
+/* "any, locked: 0012h", "not 2 to 5: 0010h"; W-202: "01's check on actions becomes 1 to 5". */
 static uint16_t judge_key(const struct device *d, const uint8_t *key)
 {
     if (d->locked)
         return LOCKED;
     switch (word(key, 0)) {
+    case LONG:    return judge_long(d, key);
     case FILL:    return judge_fill(d, key);
     case TIMER:   return judge_timer(key);
     case FEATURE: return judge_feature(key);
     case TABLE:   return judge_table(key);
     default:      return BAD_ACTION;
     }
+}
+
+static struct reply accept_long(struct port *port, const uint8_t *key)
+{
+    port->pending = word(key, 1) == LONG_READ ? SEND_LONG : RECEIVE_LONG;
+    port->first = load64(key + KEY_LBA);
+    return good_with_long_transfer();
 }
 
 /*
@@ -914,6 +1046,7 @@ static struct reply serve_key(struct service *s)
         return sct_refused_stored(d, code);
     d->code = CODE_DONE;
     switch (d->action) {
+    case LONG:    return accept_long(s->port, key);
     case FILL:    return accept_fill(s);
     case TIMER:   return accept_timer(d, key);
     case FEATURE: return accept_feature(s);
@@ -954,7 +1087,7 @@ static struct reply serve_status(struct service *s)
     if (s->device->locked)
         return sct_refused(LOCKED);
     write_status(s->sector, s->device);
-    return good_with_data();
+    return good_with_data(SCT_SECTOR_BYTES);
 }
 
 /* "A table is sent as it stands at the E1h read." */
@@ -962,13 +1095,49 @@ static struct reply send_table(struct service *s)
 {
     /* The fields of the table that the struct holds have not changed. */
     memcpy(s->sector, s->table, SCT_SECTOR_BYTES);
-    return good_with_data();
+    return good_with_data(SCT_SECTOR_BYTES);
 }
 
 static struct reply receive_fill_sector(struct service *s)
 {
     memcpy(s->fill_sector, s->sector, SCT_SECTOR_BYTES);
     start_fill(s->device, s->before.first, s->before.end);
+    return good(0);
+}
+
+/*
+ * W-202: "Read Long sends the two check bytes as stored, zeros behind". Error
+ * 40h is a sector read's alone.
+ */
+static struct reply send_long(struct service *s)
+{
+    uint64_t lba = s->before.first;
+
+    if (PLANTED(42) && check_differs(s->disk, lba))
+        return refused(UNCORRECTABLE);
+    memcpy(s->sector, sector_at(s->disk, lba), SCT_SECTOR_BYTES);
+    memcpy(s->long_check, check_at(s->disk, lba), SCT_CHECK_BYTES);
+    if (PLANTED(45))
+        store16(s->long_check, check_of(s->sector));
+    return good_with_data(SCT_SECTOR_BYTES + SCT_CHECK_BYTES);
+}
+
+/*
+ * W-202: "Write Long stores what it is sent, without judging it"; "bytes behind
+ * them", the check bytes, "are ignored on Write Long".
+ */
+static struct reply receive_long(struct service *s)
+{
+    uint16_t check = load16(s->long_check);
+    uint8_t flag = s->device->initialized;
+
+    if (PLANTED(40))
+        check = check_of(s->sector);
+    if (PLANTED(47))
+        check &= 0x1FFF;
+    write_sector(s->device, s->disk, s->before.first, s->sector, check);
+    if (PLANTED(44))
+        s->device->initialized = flag;
     return good(0);
 }
 
@@ -980,55 +1149,86 @@ static void planted_keep(struct service *s)
 }
 
 /*
- * "E1h is judged: lock 0012h; no owed transfer of this port and direction
- * 000Bh; count not 1 0003h. Each becomes the stored code. [..] A completed
- * transfer stores 0000h, or FFFFh where it starts a fill." The transfer has
- * been dropped by now in every case: "an E1h request judges that owed transfer
- * as it was before".
+ * The E1h that each transfer wants. W-202: "A long transfer is two sectors
+ * [..]; E1h wants count 2 for it and 1 for the others."
+ */
+static const struct { enum kind kind; uint16_t count; } wanted_by[TRANSFERS] = {
+    [NO_TRANSFER]         = { NO_SUCH_REQUEST, 0 },
+    [SEND_TABLE]          = { DATA_READ, 1 },
+    [RECEIVE_FILL_SECTOR] = { DATA_WRITE, 1 },
+    [SEND_LONG]           = { DATA_READ, 2 },
+    [RECEIVE_LONG]        = { DATA_WRITE, 2 }
+};
+
+/* "lock 0012h; no owed transfer of this port and direction 000Bh; count not 1 0003h." */
+static uint16_t judge_transfer(const struct service *s, const struct request *r)
+{
+    unsigned pending = s->before.pending;
+
+    if (s->device->locked)
+        return LOCKED;
+    if (wanted_by[pending].kind != r->kind)
+        return NO_TRANSFER_PENDING;
+    if (wanted_by[pending].count != r->count && !(PLANTED(39) && r->count == 1))
+        return BAD_TRANSFER_COUNT;
+    return 0;
+}
+
+/*
+ * "E1h is judged: [..]. Each becomes the stored code. [..] A completed transfer
+ * stores 0000h, or FFFFh where it starts a fill." The transfer has been dropped
+ * by now in every case: "an E1h request judges that owed transfer as it was
+ * before".
  */
 static struct reply serve_transfer(struct service *s, const struct request *r)
 {
-    struct device *d = s->device;
-    uint8_t wanted = r->kind == DATA_READ ? SEND_TABLE : RECEIVE_FILL_SECTOR;
-    uint16_t code = 0;
+    uint16_t code = judge_transfer(s, r);
 
-    if (d->locked)
-        code = LOCKED;
-    else if (s->before.pending != wanted)
-        code = NO_TRANSFER_PENDING;
-    else if (r->count != 1)
-        code = BAD_TRANSFER_COUNT;
     if (code != 0) {
         planted_keep(s);
-        return sct_refused_stored(d, code);
+        return sct_refused_stored(s->device, code);
     }
-    d->code = CODE_DONE;
-    return wanted == SEND_TABLE ? send_table(s) : receive_fill_sector(s);
+    s->device->code = CODE_DONE;
+    switch (s->before.pending) {
+    case SEND_TABLE:          return send_table(s);
+    case RECEIVE_FILL_SECTOR: return receive_fill_sector(s);
+    case SEND_LONG:           return send_long(s);
+    default:                  return receive_long(s);
+    }
 }
 
 /*
  * "Count (16 bits) other than 1: Error 04h. LBA at or above V: Error 10h.
- * Locked: Error 04h, before both."
+ * Locked: Error 04h, before both." W-202: "a read of a sector whose check
+ * differs has Error 40h, after the range check".
  */
-static uint8_t judge_sector(const struct device *d, const struct request *r)
+static uint8_t judge_sector(const struct service *s, const struct request *r)
 {
+    const struct device *d = s->device;
+    bool read = r->kind == SECTOR_READ;
+
     if (d->locked || r->count != 1)
         return ABORTED;
-    return r->lba >= d->visible ? ID_NOT_FOUND : 0;
+    if (PLANTED(29) && read && r->lba < d->native && check_differs(s->disk, r->lba))
+        return UNCORRECTABLE;
+    if (r->lba >= d->visible)
+        return ID_NOT_FOUND;
+    return read && check_differs(s->disk, r->lba) ? UNCORRECTABLE : 0;
 }
 
 static struct reply serve_sector(struct service *s, const struct request *r)
 {
-    uint8_t error = judge_sector(s->device, r);
+    uint8_t error = judge_sector(s, r);
     uint8_t flag = s->device->initialized;
 
     if (error != 0)
         return refused(error);
     if (r->kind == SECTOR_READ) {
-        memcpy(s->sector, s->disk + r->lba * SCT_SECTOR_BYTES, SCT_SECTOR_BYTES);
-        return good_with_data();
+        memcpy(s->sector, sector_at(s->disk, r->lba), SCT_SECTOR_BYTES);
+        return good_with_data(SCT_SECTOR_BYTES);
     }
-    write_sector(s->device, s->disk, r->lba, s->sector);
+    write_sector(s->device, s->disk, r->lba, s->sector,
+                 PLANTED(26) ? load16(check_at(s->disk, r->lba)) : check_of(s->sector));
     if (PLANTED(8))
         s->device->initialized = flag;
     return good(0);
@@ -1067,7 +1267,7 @@ static void planted_fetch_again(uint32_t port, uint8_t *sector)
 #endif
 
 /* Serves the request in the port's slot and leaves the reply there. */
-static void serve_slot(struct device *d, uint8_t *record, uint32_t port, uint8_t *area, uint8_t *disk)
+static void serve_slot(struct device *d, uint8_t *record, uint32_t port, uint8_t *area, struct disk disk)
 {
     struct service s;
     struct request r;
@@ -1076,6 +1276,7 @@ static void serve_slot(struct device *d, uint8_t *record, uint32_t port, uint8_t
     s.table = record + AT_TABLE;
     s.slot = SLOT(area, port);
     s.sector = s.slot + SCT_REGISTER_BYTES;
+    s.long_check = s.sector + SCT_SECTOR_BYTES;
     s.fill_sector = FILL_SECTOR(area);
     s.disk = disk;
     s.port = &d->port[port];
@@ -1087,6 +1288,40 @@ static void serve_slot(struct device *d, uint8_t *record, uint32_t port, uint8_t
     if (r.kind != STATUS_READ || PLANTED(14))
         stop_and_drop(d);
     write_reply(s.slot, carry_out(&s, &r));
+}
+
+/* ======================================================================== */
+/* Repair (W-202)                                                           */
+/* ======================================================================== */
+
+/* The reports. */
+enum { CHECK_EQUAL, BIT_FLIPPED, NOT_REPAIRED };
+
+/* "bit 12 differs, 13 to 15 don't" */
+static bool shows_one_bit(uint16_t difference)
+{
+    if (PLANTED(36) && difference == 0x1000)
+        return false;
+    return (difference & (PLANTED(35) ? 0x1000 : 0xF000)) == 0x1000;
+}
+
+/*
+ * "An owner step reports 0 (check equal), 1 (bit 12 differs, 13 to 15 don't: it
+ * flips the data bit at the differing position) or 2 (else); only 1 alters a
+ * sector, and it clears the flag."
+ */
+static uint32_t repair_sector(struct device *d, uint8_t *sector, uint16_t difference)
+{
+    unsigned position = difference & 0xFFF;
+
+    if (difference == 0)
+        return CHECK_EQUAL;
+    if (!shows_one_bit(difference))
+        return NOT_REPAIRED;
+    sector[position / 8] ^= (uint8_t)(1u << position % 8);
+    if (!PLANTED(33))
+        d->initialized = 0;
+    return BIT_FLIPPED;
 }
 
 /* ======================================================================== */
@@ -1286,9 +1521,10 @@ static bool disk_length_possible(size_t length)
            1 <= length / SCT_SECTOR_BYTES && length / SCT_SECTOR_BYTES <= SCT_NATIVE_LIMIT;
 }
 
-static bool disk_length_right(const struct device *d, size_t length)
+/* W-202: "a check area of wrong length is answer 2". */
+static bool disk_lengths_right(const struct device *d, size_t disk_length, size_t check_area_length)
 {
-    return length == d->native * SCT_SECTOR_BYTES;
+    return disk_length == d->native * SCT_SECTOR_BYTES && check_area_length == d->native * SCT_CHECK_BYTES;
 }
 
 /* ======================================================================== */
@@ -1337,25 +1573,26 @@ uint32_t REF(take)(uint8_t *device, size_t device_length, uint32_t port,
 /* "answers the held request from the slot alone and leaves the reply in the slot." */
 uint32_t REF(serve)(uint8_t *device, size_t device_length, uint32_t port,
                     uint8_t *area, size_t area_length,
-                    uint8_t *disk, size_t disk_length)
+                    uint8_t *disk, size_t disk_length,
+                    uint8_t *check_area, size_t check_area_length)
 {
     struct device d;
     uint32_t answer;
 
     if (!open_record(&d, device, device_length))
         return SCT_BAD_RECORD;
-    if (area_length != SCT_PRIVATE_BYTES || !disk_length_right(&d, disk_length))
+    if (area_length != SCT_PRIVATE_BYTES || !disk_lengths_right(&d, disk_length, check_area_length))
         return SCT_BAD_LENGTH;
     answer = judge_port(&d, port, HELD);
     if (answer != SCT_DONE)
         return answer;
-    serve_slot(&d, device, port, area, disk);
+    serve_slot(&d, device, port, area, (struct disk){ disk, check_area });
     d.port[port].stage = ANSWERED;
     write_device(device, &d);
     return SCT_DONE;
 }
 
-/* "writes all 528 reply bytes to the mailbox. Answered to empty; the slot's bytes stay." */
+/* "writes all 528 reply bytes to the mailbox", by W-202 1,040. "Answered to empty; the slot's bytes stay." */
 uint32_t REF(give)(uint8_t *device, size_t device_length, uint32_t port,
                    uint8_t *mailbox, size_t mailbox_length,
                    const uint8_t *area, size_t area_length)
@@ -1382,16 +1619,17 @@ uint32_t REF(give)(uint8_t *device, size_t device_length, uint32_t port,
  */
 uint64_t REF(work)(uint8_t *device, size_t device_length,
                    const uint8_t *area, size_t area_length,
-                   uint8_t *disk, size_t disk_length, uint32_t n)
+                   uint8_t *disk, size_t disk_length,
+                   uint8_t *check_area, size_t check_area_length, uint32_t n)
 {
     struct device d;
     uint32_t sectors;
 
     if (!open_record(&d, device, device_length))
         return (uint64_t)SCT_BAD_RECORD << 32;
-    if (area_length != SCT_PRIVATE_BYTES || !disk_length_right(&d, disk_length))
+    if (area_length != SCT_PRIVATE_BYTES || !disk_lengths_right(&d, disk_length, check_area_length))
         return (uint64_t)SCT_BAD_LENGTH << 32;
-    sectors = advance_fill(&d, disk, FILL_SECTOR(area), n);
+    sectors = advance_fill(&d, (struct disk){ disk, check_area }, FILL_SECTOR(area), n);
     if (PLANTED(12) && n == 0)
         sectors = 1;
     write_device(device, &d);
@@ -1449,6 +1687,45 @@ uint32_t REF(sample)(uint8_t *device, size_t device_length, uint8_t reading)
     return SCT_DONE;
 }
 
+/* Stops what a refused repair should leave. */
+static void planted_stop(uint8_t *device, struct device *d)
+{
+    if (!PLANTED(38))
+        return;
+    stop_and_drop(d);
+    write_device(device, d);
+}
+
+/*
+ * W-202: "The step first stops a fill and drops an owed transfer, as setting V
+ * does." "mending at or above V is answer 5, and a refused mending reports 0".
+ */
+uint64_t REF(repair)(uint8_t *device, size_t device_length,
+                     uint8_t *disk, size_t disk_length,
+                     const uint8_t *check_area, size_t check_area_length, uint64_t lba)
+{
+    struct device d;
+    uint8_t *sector;
+    uint16_t difference;
+    uint32_t report;
+
+    if (!open_record(&d, device, device_length))
+        return (uint64_t)SCT_BAD_RECORD << 32;
+    if (!disk_lengths_right(&d, disk_length, check_area_length))
+        return (uint64_t)SCT_BAD_LENGTH << 32;
+    if (lba >= (PLANTED(34) ? d.native : d.visible)) {
+        planted_stop(device, &d);
+        return (uint64_t)SCT_BAD_VALUE << 32;
+    }
+    sector = disk + lba * SCT_SECTOR_BYTES;
+    difference = check_difference(sector, check_area + lba * SCT_CHECK_BYTES);
+    if (!PLANTED(32) && !(PLANTED(37) && difference == 0))
+        stop_and_drop(&d);
+    report = repair_sector(&d, sector, difference);
+    write_device(device, &d);
+    return (uint64_t)SCT_DONE << 32 | report;
+}
+
 /* "image has 117 entries, or its buffer lacks 560 more bytes" */
 static bool image_full(size_t image_length, uint64_t used)
 {
@@ -1484,6 +1761,7 @@ uint32_t REF(save)(const uint8_t *device, size_t device_length,
 uint32_t REF(power_on)(uint8_t *device, size_t device_length,
                        uint8_t *area, size_t area_length,
                        const uint8_t *disk, size_t disk_length,
+                       const uint8_t *check_area, size_t check_area_length,
                        const uint8_t *image, size_t image_length, uint64_t used)
 {
     struct device d;
@@ -1491,9 +1769,11 @@ uint32_t REF(power_on)(uint8_t *device, size_t device_length,
     const uint8_t *newest;
     uint32_t answer;
 
-    (void)disk;     /* passed for its length */
+    (void)disk;             /* both are passed for their lengths */
+    (void)check_area;
     if (device_length != SCT_RECORD_BYTES || area_length != SCT_PRIVATE_BYTES ||
-        !disk_length_possible(disk_length) || used > image_length)
+        !disk_length_possible(disk_length) || check_area_length != native * SCT_CHECK_BYTES ||
+        used > image_length)
         return SCT_BAD_LENGTH;
     answer = judge_image(image, used, native);
     if (answer != SCT_DONE)

@@ -23,9 +23,10 @@ static struct state s;
 static uint32_t power_on(const uint8_t *image, size_t length)
 {
     return sct_power_on(s.device, sizeof s.device, s.area, sizeof s.area, s.disk, sizeof s.disk,
-                        image, length, length);
+                        s.check_area, sizeof s.check_area, image, length, length);
 }
 
+/* Sectors of zeros, whose check is zero too. */
 static uint32_t new_disk(void)
 {
     uint32_t answer;
@@ -52,7 +53,7 @@ static uint32_t fill(uint32_t sectors)
     if (answer != SCT_DONE)
         return answer;
     return sct_work_answer(sct_work(s.device, sizeof s.device, s.area, sizeof s.area,
-                                    s.disk, sizeof s.disk, sectors));
+                                    s.disk, sizeof s.disk, s.check_area, sizeof s.check_area, sectors));
 }
 
 static uint32_t table(void)

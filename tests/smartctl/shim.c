@@ -35,7 +35,7 @@ static const struct word identify_words[] = {
     { 82, 0x0001 }, { 85, 0x0001 },                 /* SMART: supported, enabled */
     { 83, 0x4400 }, { 86, 0x0400 },                 /* 48-bit addresses: supported, enabled */
     { 84, 0x4020 }, { 87, 0x4020 },                 /* general purpose logging: supported, enabled */
-    { 206, 0x003D }                                 /* SCT with actions 2 to 5 */
+    { 206, 0x003D }                                 /* SCT with actions 2 to 5; action 1 is for the test bench */
 };
 
 /* Text in IDENTIFY data: padded with spaces, the two characters of a word exchanged. */
@@ -164,10 +164,10 @@ static bool is_pass_through(const struct sg_io_hdr *io)
            (io->cmd_len == 12 && io->cmdp[0] == PASS_THROUGH_12);
 }
 
-/* A mailbox has one sector of the data. */
+/* A mailbox has two sectors of the data. */
 static size_t data_length(const struct sg_io_hdr *io)
 {
-    return io->dxfer_len < SCT_SECTOR_BYTES ? io->dxfer_len : SCT_SECTOR_BYTES;
+    return io->dxfer_len < SCT_DATA_BYTES ? io->dxfer_len : SCT_DATA_BYTES;
 }
 
 /* Five registers, then Device and Command. The longer block has a previous byte before each of the five. */

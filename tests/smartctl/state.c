@@ -26,7 +26,8 @@ uint32_t handle(struct state *s, uint8_t *mailbox)
     uint32_t answer = sct_take(s->device, sizeof s->device, 0, mailbox, SCT_MAILBOX_BYTES, s->area, sizeof s->area);
 
     if (answer == SCT_DONE)
-        answer = sct_serve(s->device, sizeof s->device, 0, s->area, sizeof s->area, s->disk, sizeof s->disk);
+        answer = sct_serve(s->device, sizeof s->device, 0, s->area, sizeof s->area, s->disk, sizeof s->disk,
+                           s->check_area, sizeof s->check_area);
     if (answer == SCT_DONE)
         answer = sct_give(s->device, sizeof s->device, 0, mailbox, SCT_MAILBOX_BYTES, s->area, sizeof s->area);
     return answer;

@@ -1,6 +1,7 @@
 /*
  * state.h - the disk between two runs of smartctl: a file with record, private
- * area and disk. smartctl is given the file's name as that of its device.
+ * area, disk and check area. smartctl is given the file's name as that of its
+ * device.
  */
 #ifndef SMARTCTL_STATE_H
 #define SMARTCTL_STATE_H
@@ -15,6 +16,7 @@ struct state {
     uint8_t device[SCT_RECORD_BYTES];
     uint8_t area[SCT_PRIVATE_BYTES];
     uint8_t disk[NATIVE * SCT_SECTOR_BYTES];
+    uint8_t check_area[NATIVE * SCT_CHECK_BYTES];
 };
 
 /* False where the file has another length or can't be read or written. */

@@ -29,12 +29,12 @@
 #error "this test switches stacks with x86-64 instructions"
 #endif
 
-enum { LIMIT = 1024, STACK_BYTES = 32768, SECTORS = 64, RANDOM_TRIALS = 20000 };
+enum { LIMIT = 1024, STACK_BYTES = 32768, SECTORS = 64, DAMAGED = 20, RANDOM_TRIALS = 20000 };
 
-enum entry { POWER_ON, TAKE, SERVE, GIVE, WORK, LOCK, UNLOCK, SET_VISIBLE, SAMPLE, SAVE, ENTRIES };
+enum entry { POWER_ON, TAKE, SERVE, GIVE, WORK, LOCK, UNLOCK, SET_VISIBLE, SAMPLE, REPAIR, SAVE, ENTRIES };
 
 static const char *const entry_name[ENTRIES] = {
-    "power_on", "take", "serve", "give", "work", "lock", "unlock", "set_visible", "sample", "save"
+    "power_on", "take", "serve", "give", "work", "lock", "unlock", "set_visible", "sample", "repair", "save"
 };
 
 /* ---- The buffers, and one call ------------------------------------------------ */
@@ -42,6 +42,7 @@ static const char *const entry_name[ENTRIES] = {
 static uint8_t  device[SCT_RECORD_BYTES];
 static uint8_t  area[SCT_PRIVATE_BYTES];
 static uint8_t  disk[SECTORS * SCT_SECTOR_BYTES];
+static uint8_t  check_area[SECTORS * SCT_CHECK_BYTES];
 static uint8_t  mail[SCT_MAILBOX_BYTES];
 static uint8_t  image[SCT_IMAGE_LIMIT + SCT_ENTRY_BYTES];
 static uint64_t used;
@@ -52,6 +53,7 @@ struct call {
     uint32_t   port, n;
     uint64_t   visible;
     uint8_t    reading;
+    uint64_t   lba;
     uint32_t   answer;
 };
 
@@ -63,20 +65,21 @@ static void make_call(void *argument)
     switch (c->entry) {
     case POWER_ON:
         c->answer = code->power_on(device, sizeof device, area, sizeof area, disk, sizeof disk,
-                                   image, sizeof image, used);
+                                   check_area, sizeof check_area, image, sizeof image, used);
         break;
     case TAKE:
         c->answer = code->take(device, sizeof device, c->port, mail, sizeof mail, area, sizeof area);
         break;
     case SERVE:
-        c->answer = code->serve(device, sizeof device, c->port, area, sizeof area, disk, sizeof disk);
+        c->answer = code->serve(device, sizeof device, c->port, area, sizeof area, disk, sizeof disk,
+                                check_area, sizeof check_area);
         break;
     case GIVE:
         c->answer = code->give(device, sizeof device, c->port, mail, sizeof mail, area, sizeof area);
         break;
     case WORK:
         c->answer = sct_work_answer(code->work(device, sizeof device, area, sizeof area,
-                                               disk, sizeof disk, c->n));
+                                               disk, sizeof disk, check_area, sizeof check_area, c->n));
         break;
     case LOCK:
         c->answer = code->lock(device, sizeof device);
@@ -90,6 +93,10 @@ static void make_call(void *argument)
     case SAMPLE:
         c->answer = code->sample(device, sizeof device, c->reading);
         break;
+    case REPAIR:
+        c->answer = sct_repair_answer(code->repair(device, sizeof device, disk, sizeof disk,
+                                                   check_area, sizeof check_area, c->lba));
+        break;
     default:
         c->answer = code->save(device, sizeof device, image, sizeof image, used);
         break;
@@ -101,9 +108,10 @@ static void make_call(void *argument)
 #define UNUSED(a) (void)(a)
 
 static uint32_t no_power_on(uint8_t *a, size_t b, uint8_t *c, size_t d, const uint8_t *e, size_t f,
-                            const uint8_t *g, size_t h, uint64_t i)
+                            const uint8_t *g, size_t h, const uint8_t *i, size_t j, uint64_t k)
 {
     UNUSED(a); UNUSED(b); UNUSED(c); UNUSED(d); UNUSED(e); UNUSED(f); UNUSED(g); UNUSED(h); UNUSED(i);
+    UNUSED(j); UNUSED(k);
     return 0;
 }
 
@@ -113,9 +121,10 @@ static uint32_t no_take(uint8_t *a, size_t b, uint32_t c, const uint8_t *d, size
     return 0;
 }
 
-static uint32_t no_serve(uint8_t *a, size_t b, uint32_t c, uint8_t *d, size_t e, uint8_t *f, size_t g)
+static uint32_t no_serve(uint8_t *a, size_t b, uint32_t c, uint8_t *d, size_t e, uint8_t *f, size_t g,
+                         uint8_t *h, size_t i)
 {
-    UNUSED(a); UNUSED(b); UNUSED(c); UNUSED(d); UNUSED(e); UNUSED(f); UNUSED(g);
+    UNUSED(a); UNUSED(b); UNUSED(c); UNUSED(d); UNUSED(e); UNUSED(f); UNUSED(g); UNUSED(h); UNUSED(i);
     return 0;
 }
 
@@ -125,9 +134,10 @@ static uint32_t no_give(uint8_t *a, size_t b, uint32_t c, uint8_t *d, size_t e, 
     return 0;
 }
 
-static uint64_t no_work(uint8_t *a, size_t b, const uint8_t *c, size_t d, uint8_t *e, size_t f, uint32_t g)
+static uint64_t no_work(uint8_t *a, size_t b, const uint8_t *c, size_t d, uint8_t *e, size_t f,
+                        uint8_t *g, size_t h, uint32_t i)
 {
-    UNUSED(a); UNUSED(b); UNUSED(c); UNUSED(d); UNUSED(e); UNUSED(f); UNUSED(g);
+    UNUSED(a); UNUSED(b); UNUSED(c); UNUSED(d); UNUSED(e); UNUSED(f); UNUSED(g); UNUSED(h); UNUSED(i);
     return 0;
 }
 
@@ -149,6 +159,12 @@ static uint32_t no_sample(uint8_t *a, size_t b, uint8_t c)
     return 0;
 }
 
+static uint64_t no_repair(uint8_t *a, size_t b, uint8_t *c, size_t d, const uint8_t *e, size_t f, uint64_t g)
+{
+    UNUSED(a); UNUSED(b); UNUSED(c); UNUSED(d); UNUSED(e); UNUSED(f); UNUSED(g);
+    return 0;
+}
+
 static uint32_t no_save(const uint8_t *a, size_t b, uint8_t *c, size_t d, uint64_t e)
 {
     UNUSED(a); UNUSED(b); UNUSED(c); UNUSED(d); UNUSED(e);
@@ -157,7 +173,7 @@ static uint32_t no_save(const uint8_t *a, size_t b, uint8_t *c, size_t d, uint64
 
 static const struct implementation nothing = {
     "nothing", no_power_on, no_take, no_serve, no_give, no_work,
-    no_lock, no_lock, no_set_visible, no_sample, no_save
+    no_lock, no_lock, no_set_visible, no_sample, no_repair, no_save
 };
 
 /* ---- Measuring -------------------------------------------------------------------- */
@@ -190,13 +206,18 @@ static size_t depth_with(struct call *call, uint8_t paint)
 }
 
 /* The buffers of a call, to make it again from the same state. */
-static struct { uint8_t device[SCT_RECORD_BYTES], area[SCT_PRIVATE_BYTES], mail[SCT_MAILBOX_BYTES]; } kept;
+static struct {
+    uint8_t device[SCT_RECORD_BYTES], area[SCT_PRIVATE_BYTES], mail[SCT_MAILBOX_BYTES];
+    uint8_t disk[sizeof disk], check_area[sizeof check_area];
+} kept;
 
 static void keep_state(void)
 {
     memcpy(kept.device, device, sizeof device);
     memcpy(kept.area, area, sizeof area);
     memcpy(kept.mail, mail, sizeof mail);
+    memcpy(kept.disk, disk, sizeof disk);
+    memcpy(kept.check_area, check_area, sizeof check_area);
 }
 
 static void restore_state(void)
@@ -204,6 +225,8 @@ static void restore_state(void)
     memcpy(device, kept.device, sizeof device);
     memcpy(area, kept.area, sizeof area);
     memcpy(mail, kept.mail, sizeof mail);
+    memcpy(disk, kept.disk, sizeof disk);
+    memcpy(check_area, kept.check_area, sizeof check_area);
 }
 
 static size_t depth_of(struct call *call)
@@ -235,7 +258,7 @@ static uint32_t measure(struct call *call)
 
 static struct call call_of(enum entry entry)
 {
-    struct call c = { &archive, entry, 0, 3, SECTORS / 2, 30, 0 };
+    struct call c = { &archive, entry, 0, 3, SECTORS / 2, 30, DAMAGED, 0 };
 
     return c;
 }
@@ -268,7 +291,7 @@ static void exchange(void)
     measure_entry(GIVE);
 }
 
-enum { REQUESTS = 22 };
+enum { REQUESTS = 30 };
 
 static void request(unsigned number)
 {
@@ -289,11 +312,19 @@ static void request(unsigned number)
     case 13: build_key(mail, SMART, 4, 1, 3, 2, 1); break;
     case 14: build_key(mail, SMART, 4, 2, 1, 0, 0); break;
     case 15: build_key(mail, SMART, 4, 1, 1, 9, 9); break;
-    case 16: build_key(mail, SMART, 1, 1, 1, 1, 1); break;
+    case 16: build_key(mail, SMART, 6, 1, 1, 1, 1); break;
     case 17: build_sector(mail, false, 3, 1); break;
     case 18: build_sector(mail, true, 3, 1); break;
     case 19: build_sector(mail, true, 1u << 30, 1); break;
     case 20: build_sector(mail, true, 3, 2); break;
+    case 21: build_sector(mail, false, DAMAGED, 1); break;
+    case 22: build_long(mail, SMART, 1, DAMAGED); break;
+    case 23: build_long_read(mail, SMART); break;
+    case 24: build_long(mail, LOG_EXT, 2, 5); break;
+    case 25: build_long_write(mail, LOG_EXT); break;
+    case 26: build_long(mail, SMART, 3, 5); break;
+    case 27: build_long(mail, SMART, 2, UINT64_MAX); break;
+    case 28: build_long_write(mail, SMART); break;
     default: build_command(mail, 0xEC); break;
     }
 }
@@ -301,6 +332,7 @@ static void request(unsigned number)
 static void all_requests(void)
 {
     for (unsigned i = 0; i < REQUESTS; i++) {
+        check_area[DAMAGED * SCT_CHECK_BYTES] = 1;     /* also after a fill */
         request(i);
         exchange();
         measure_entry(WORK);
@@ -318,6 +350,22 @@ static void requests_in_every_state(void)
     all_requests();
     for (int i = 0; i < 5; i++)
         measure_entry(SAMPLE);
+}
+
+/* The reports 2, 1 and 0, and a refusal. */
+static void repairs(void)
+{
+    struct call c = call_of(REPAIR);
+
+    measure_entry(POWER_ON);
+    memset(disk + DAMAGED * SCT_SECTOR_BYTES, 0, SCT_SECTOR_BYTES);
+    put16(check_area + DAMAGED * SCT_CHECK_BYTES, 0x0003);
+    measure(&c);
+    put16(check_area + DAMAGED * SCT_CHECK_BYTES, 0x1FFF);
+    measure(&c);
+    measure(&c);
+    c.lba = SECTORS;
+    measure(&c);
 }
 
 /* An image grows to 117 entries, with a power-on from each length. */
@@ -353,6 +401,7 @@ static void random_states(void)
         c.n >>= below(&r, 32);
         c.visible = below(&r, SECTORS + 2);
         c.reading = (uint8_t)random64(&r);
+        c.lba = below(&r, SECTORS + 2);
         if (once_in(&r, 10))
             device[below(&r, SCT_RECORD_BYTES)] ^= (uint8_t)random64(&r);
         measure(&c);
@@ -365,6 +414,7 @@ int main(void)
 
     measure_nothing();
     requests_in_every_state();
+    repairs();
     chains();
     random_states();
     printf("stack in bytes, return address included (limit %d)\n", LIMIT);

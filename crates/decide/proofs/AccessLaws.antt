@@ -9,7 +9,7 @@ use Rattle.wire.specs.Choice.{if_then_else_, firstFailed, ifPassed}
 use Rattle.wire.proofs.ChoiceLaws.{passed-not}
 use Rattle.model.specs.Device.{Transfer, none, Device}
 use Rattle.model.specs.Update.{withCode}
-use Rattle.model.specs.Registers.{Direction, Registers, dataOf, good, refused, refusedWith}
+use Rattle.model.specs.Registers.{Direction, Registers, dataOf, longDataOf, good, refused, refusedWith}
 use Rattle.model.specs.Fill.{interrupt}
 use Rattle.model.specs.Decide.{nothing, status, sending, Decision, decision, decideStatus, dataChecks, transferEffect, decideData, sectorChecks, sectorEffect, decideSector, pendingFor}
 use Rattle.model.proofs.RequestLaws.{interrupt-kept}
@@ -33,10 +33,10 @@ module _ (d e f : device.Device.Device) (p : ℕ) (dir : Direction) (count n : �
     (pends : t ≡ getD (pendingOf (d .slots)) p none) (judged : n ≡ firstFailed (dataChecks (d .locked) dir count t)) (stop : Changed interrupt d e) (coded : Changed (withCode n) e f) where
   -- what is decided if the first check that fails has the number c
   abbrev choice : ℕ → Transfer → Device → Decision
-  choice c u x = ifPassed c (decision (withCode 0x0000 (interrupt x)) (good 0 0) (transferEffect u (dataOf m))) (decision (withCode c (interrupt x)) (refusedWith c) nothing)
+  choice c u x = ifPassed c (decision (withCode 0x0000 (interrupt x)) (good 0 0) (transferEffect u (longDataOf m))) (decision (withCode c (interrupt x)) (refusedWith c) nothing)
 
   abbrev rule : Device → Decision
-  rule x = decideData dir count (pendingFor p x) (dataOf m) (interrupt x)
+  rule x = decideData dir count (pendingFor p x) (longDataOf m) (interrupt x)
 
   -- stopping a fill changes nothing that the checks read
   chosen : (h : List ℕ) → choice n t (asDevice d h) ≡ rule (asDevice d h)
@@ -58,14 +58,14 @@ module _ (d e f : device.Device.Device) (p : ℕ) (dir : Direction) (count n : �
       (λ h. sym (passed-not n _ (decision (withCode n (interrupt (asDevice d h))) (refusedWith n) nothing) ne) ∙ chosen h)
       (says-decided m (λ x. withCode n (interrupt x)) (λ x. refusedWith n) (λ m. nothing) d f q k says stopped (λ h. registers))
 
-  pub data-completed : n ≡ 0 → Decided m (λ x. decision x (good 0 0) (transferEffect t (dataOf m))) f k → Decided m rule d k
+  pub data-completed : n ≡ 0 → Decided m (λ x. decision x (good 0 0) (transferEffect t (longDataOf m))) f k → Decided m rule d k
   data-completed z done =
-      decided-as m (λ x. decision (withCode n (interrupt x)) (good 0 0) (transferEffect t (dataOf m))) rule d k
+      decided-as m (λ x. decision (withCode n (interrupt x)) (good 0 0) (transferEffect t (longDataOf m))) rule d k
       (λ h.
-      ap (λ (c : ℕ). decision (withCode c (interrupt (asDevice d h))) (good 0 0) (transferEffect t (dataOf m))) z
+      ap (λ (c : ℕ). decision (withCode c (interrupt (asDevice d h))) (good 0 0) (transferEffect t (longDataOf m))) z
       ∙ ap (λ (c : ℕ). choice c t (asDevice d h)) (sym z)
       ∙ chosen h)
-      (decided-then m (λ x. withCode n (interrupt x)) (λ x. decision x (good 0 0) (transferEffect t (dataOf m))) d f k stopped done)
+      (decided-then m (λ x. withCode n (interrupt x)) (λ x. decision x (good 0 0) (transferEffect t (longDataOf m))) d f k stopped done)
 
 -- ---- one sector
 

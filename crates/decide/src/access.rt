@@ -14,7 +14,7 @@ ghost use Prim.Native.Nat.{ℕ, _<_};
 ghost use lib.ListN.{length, getD};
 ghost use Rattle.model.specs.Sizes.{portCount};
 ghost use Rattle.model.specs.Device.{none};
-ghost use Rattle.model.specs.Registers.{dataOf, good};
+ghost use Rattle.model.specs.Registers.{dataOf, longDataOf, good};
 ghost use Rattle.model.specs.Fill.{interrupt};
 ghost use Rattle.model.specs.Decide.{decision, transferEffect, sectorEffect, pendingFor, decideData, decideSector};
 ghost use Rattle.record.specs.DeviceMeaning.{asTransfer, pendingOf, asDirection};
@@ -30,21 +30,23 @@ fn pending_of(d: Device, p: usize) -> Transfer
     s.pending
 }
 
-// A completed transfer: the table is sent, or a fill begins with the sector that came.
+// A completed transfer: the table is sent, or a fill begins with the sector that came; W-202: a sector is sent or written with its check bytes.
 fn completed(d: Device, t: Transfer) -> Decision
-    ensures { λ k. ⌜ ((m : List ℕ) → Decided m (λ x. decision x (good 0 0) (transferEffect (asTransfer t) (dataOf m))) d k) ⌝ }
+    ensures { λ k. ⌜ ((m : List ℕ) → Decided m (λ x. decision x (good 0 0) (transferEffect (asTransfer t) (longDataOf m))) d k) ⌝ }
 {
     match t {
         Transfer::None => replied(d, reply::good(0, 0)),
         Transfer::Table => to_send(d, Sending::Temperatures),
         Transfer::FillData(first, end) => to_write(d, Writing::DataFill(first, end)),
+        Transfer::ReadLong(lba) => to_send(d, Sending::StoredSector(lba)),
+        Transfer::WriteLong(lba) => to_write(d, Writing::LongSector(lba)),
     }
 }
 
 // "E1h is judged": the code is stored, 0000h if the transfer is completed.
 pub fn decide_data(d: Device, p: usize, dir: Direction, count: u16) -> Decision
     requires { ⌜ (p < portCount) × (length (d .slots) ≡ portCount) ⌝ }
-    ensures { λ k. ⌜ ((m : List ℕ) → Decided m (λ x. decideData (asDirection dir) count (pendingFor p x) (dataOf m) (interrupt x)) d k) ⌝ }
+    ensures { λ k. ⌜ ((m : List ℕ) → Decided m (λ x. decideData (asDirection dir) count (pendingFor p x) (longDataOf m) (interrupt x)) d k) ⌝ }
 {
     let t = pending_of(d, p);
     let code = request::data_code(d.locked, dir, count, t);

@@ -5,9 +5,10 @@ use mathlib.Core.List.{List}
 use Prim.Native.Nat.{ℕ}
 use lib.ListN.{length}
 use Rattle.model.specs.Device.{Device}
-use Rattle.model.specs.Registers.{Registers, dataOf}
+use Rattle.model.specs.Registers.{Registers, dataOf, longDataOf}
+use Rattle.model.specs.Disk.{checked}
 use Rattle.model.specs.Key.{patternSector}
-use Rattle.model.specs.Decide.{Writing, noWrite, oneSector, newFill, Sending, noData, status, temperatures, diskSector, Effect, Decision, decision}
+use Rattle.model.specs.Decide.{Writing, noWrite, oneSector, newFill, Sending, noData, status, temperatures, diskSector, storedSector, Effect, Decision, decision}
 use Rattle.record.specs.declared.device as device
 use Rattle.record.specs.DeviceMeaning.{asDevice, historyAfter, stagesOf}
 use Rattle.reply.specs.ReplyMeaning.{asRegisters}
@@ -17,7 +18,8 @@ use Rattle.decision.specs.declared.decision.Sending.the-variants as send
 
 abbrev pub asWriting : code.Writing.Writing → List ℕ → Writing
 asWriting writes.Nothing m = noWrite
-asWriting (writes.Sector lba) m = oneSector lba (dataOf m)
+asWriting (writes.Sector lba) m = oneSector lba (checked (dataOf m))
+asWriting (writes.LongSector lba) m = oneSector lba (longDataOf m)
 asWriting (writes.PatternFill first end) m = newFill first end (patternSector (dataOf m))
 asWriting (writes.DataFill first end) m = newFill first end (dataOf m)
 
@@ -26,6 +28,7 @@ asSending sends.Nothing = noData
 asSending sends.Status = status
 asSending sends.Temperatures = temperatures
 asSending (sends.Sector lba) = diskSector lba
+asSending (sends.StoredSector lba) = storedSector lba
 
 abbrev pub asEffect : code.Decision.Decision → List ℕ → Effect
 asEffect k m = record { writes = asWriting (k .writes) m; sends = asSending (k .sends) }

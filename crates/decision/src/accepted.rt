@@ -6,6 +6,7 @@ use crate::decision::replied;
 use crate::decision::to_write;
 use key::Action;
 use record::Device;
+use record::Direction;
 use record::FeatureName;
 use record::Settings;
 use record::Transfer;
@@ -17,10 +18,20 @@ ghost use Rattle.wire.specs.Choice.{bit};
 ghost use Rattle.model.specs.Sizes.{portCount};
 ghost use Rattle.model.specs.Registers.{dataOf};
 ghost use Rattle.model.specs.Key.{patternSector, setFeature};
-ghost use Rattle.model.specs.Decide.{feature, carryOut};
-ghost use Rattle.record.specs.DeviceMeaning.{asSettings, asFeatureName};
+ghost use Rattle.model.specs.Decide.{feature, longTransfer, carryOut};
+ghost use Rattle.record.specs.DeviceMeaning.{asTransfer, asDirection, asSettings, asFeatureName};
 ghost use Rattle.key.specs.VerdictMeaning.{asAction};
 ghost use Rattle.decision.specs.DecisionMeaning.{Decided};
+
+// The transfer that a long sector access announces.
+fn long_transfer(dir: Direction, lba: u64) -> Transfer
+    ensures { λ r. ⌜ asTransfer r ≡ longTransfer (asDirection dir) lba ⌝ }
+{
+    match dir {
+        Direction::Read => Transfer::ReadLong(lba),
+        Direction::Write => Transfer::WriteLong(lba),
+    }
+}
 
 fn state_of(name: FeatureName, s: Settings) -> u16
     ensures { λ r. ⌜ r ≡ feature (asFeatureName name) (asSettings s) .state ⌝ }
@@ -54,13 +65,18 @@ fn feature_set(d: Device, p: usize, name: FeatureName, state: u16, keep: bool) -
 }
 
 // An accepted key of port p. "The value asked for by timers 2 and feature 2 or 3 .. stands in Sector Count (low) and LBA Low (high); other
-// accepted keys have 0 there. LBA Mid is 1 if a sector is owed (fill function 2, table), else 0." "Pattern fill starts at once".
+// accepted keys have 0 there. LBA Mid is 1 if a sector is owed (fill function 2, table), else 0." "Pattern fill starts at once". W-202: "either
+// key's reply has 2 in Sector Count and LBA Mid".
 pub fn carry_out(d: Device, p: usize, action: Action) -> Decision
     requires { ⌜ (p < portCount) × (length (d .slots) ≡ portCount) ⌝ }
     ensures { λ k. ⌜ ((m : List ℕ) → Decided m (carryOut (asAction action (patternSector (dataOf m))) p) d k) ⌝ }
 {
     let s = d.settings;
     match action {
+        Action::AccessLong(dir, lba) => replied(
+            device_update::with_pending(d, p, long_transfer(dir, lba)),
+            reply::good(2, 2),
+        ),
         Action::FillPattern(first, end) => to_write(d, Writing::PatternFill(first, end)),
         Action::FillSector(first, end) => replied(
             device_update::with_pending(d, p, Transfer::FillData(first, end)),

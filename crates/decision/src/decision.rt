@@ -1,4 +1,5 @@
-// A decision by value: the new device, the reply's registers, what is to be written and what the reply is to carry.
+// A decision by value: the new device, the reply's registers (unless a sector is read whose check differs), what is to be written and what the
+// reply is to carry.
 use record::Device;
 use reply::Reply;
 ghost use Rattle.model.specs.Registers.{good};
@@ -7,20 +8,22 @@ ghost use Rattle.reply.specs.ReplyMeaning.{asRegisters};
 ghost use Rattle.decision.specs.DecisionMeaning.{asWriting, asSending, Says};
 
 // What is to be written: a sector at an LBA, or a fill that begins, with its first sector and its end. The content is in the slot: its
-// data for Sector and DataFill, the pattern of its key for PatternFill.
+// data for Sector and DataFill, the same with the check bytes behind it for LongSector, the pattern of its key for PatternFill.
 pub enum Writing {
     Nothing,
     Sector(u64),
+    LongSector(u64),
     PatternFill(u64, u64),
     DataFill(u64, u64),
 }
 
-// What the reply is to carry: the status sector, the temperature table, or the sector at an LBA.
+// What the reply is to carry: the status sector, the temperature table, the sector at an LBA, or that sector with its check bytes as stored.
 pub enum Sending {
     Nothing,
     Status,
     Temperatures,
     Sector(u64),
+    StoredSector(u64),
 }
 
 // `empties`: the temperature history, which the record's bytes hold and the device does not, is to be emptied.

@@ -3,11 +3,12 @@ use mathlib.Core.Path.{_≡_}
 use mathlib.Core.List.{List}
 use Prim.Native.Nat.{ℕ}
 use lib.ListN.{getD}
+use Rattle.model.specs.Disk.{Disk}
 use Rattle.store.specs.Record.{decode}
 use Rattle.store.specs.Entries.{TakeAfter, takeBytes, ServeAfter, serveBytes, GiveAfter, giveBytes, WorkAfter, workBytes}
 use Rattle.desk_session.specs.Report.{report}
 
-module _ (r a disk m : List ℕ) (n : ℕ) where
+module _ (r a : List ℕ) (disk : Disk) (m : List ℕ) (n : ℕ) where
   abbrev pub taken : TakeAfter
   taken = takeBytes r 0 m a
 
@@ -25,7 +26,7 @@ module _ (r a disk m : List ℕ) (n : ℕ) where
   lineOf number = report number (getD (given .mailbox) 12 0) (getD (given .mailbox) 13 0) (decode (worked .recordArea) .device .command .code) (worked .count)
 
 -- "Each is taken, served, given, then worked."
-pub record Turned (r a disk m : List ℕ) (n count : ℕ) (newRecord newArea newDisk newMailbox : List ℕ) : Type 0 where
+pub record Turned (r a : List ℕ) (disk : Disk) (m : List ℕ) (n count : ℕ) (newRecord newArea : List ℕ) (newDisk : Disk) (newMailbox : List ℕ) : Type 0 where
   pub counted : count ≡ worked r a disk m n .count
   pub recordBytes : newRecord ≡ worked r a disk m n .recordArea
   pub areaBytes : newArea ≡ served r a disk m n .privateArea

@@ -1,4 +1,4 @@
-// How the device changes, by value: a fill stopped, started and advanced (command.rt); lock and visible size (owner.rt).
+// How the device changes, by value: a fill stopped, started and advanced (command.rt); lock, visible size and repair (owner.rt).
 mod command;
 mod owner;
 
@@ -9,5 +9,6 @@ pub use command::with_code;
 pub use command::with_flag_cleared;
 pub use command::with_key;
 pub use command::with_pending;
+pub use owner::repaired;
 pub use owner::set_lock;
 pub use owner::set_visible;

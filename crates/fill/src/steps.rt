@@ -1,16 +1,21 @@
 // How a running fill advances: how many sectors a budget allows, the sectors written, and the device after them.
+use layout::CHECK_U64;
 use layout::FILL_AT;
 use layout::SECTOR;
 use layout::SECTOR_U64;
 use record::Device;
 use record::Fill;
+use sector_check::check_of;
 ghost use mathlib.Core.Path.{_≡_};
 ghost use mathlib.Core.Bool.{true};
 ghost use Prim.Native.Nat.{_+_, _*_, _-_, _≤_};
 ghost use lib.ListN.{length};
 ghost use lib.Seq.{sets};
+ghost use Rattle.wire.specs.Numbers.{le};
 ghost use Rattle.wire.specs.Parts.{repeated};
-ghost use Rattle.model.specs.Sizes.{sectorSize};
+ghost use Rattle.sector_check.specs.Check.{checkOf};
+ghost use Rattle.model.specs.Sizes.{sectorSize, checkSize};
+ghost use Rattle.model.specs.Disk.{diskOf, HasSize};
 ghost use Rattle.model.specs.Fill.{remaining, workCount};
 ghost use Rattle.record.specs.DeviceMeaning.{asFill};
 ghost use Rattle.store.specs.Areas.{privateSize};
@@ -60,6 +65,18 @@ fn write_sectors(disk: &mut [u8], area: &[u8], next: u64, k: u32)
     }
 }
 
+// Writes the check bytes of the fill's sector to the same k places. They are computed once, and only if a sector is written.
+fn write_check_bytes(check_area: &mut [u8], area: &[u8], next: u64, k: u32)
+    requires { ⌜ (length (now area) ≡ privateSize) × (checkSize * (next + k) ≤ length (now «check_area»)) ⌝ }
+    ensures { λ _. ⌜ now («check_area» .exit) ≡ sets (now («check_area» .entry)) (checkSize * next) (repeated k (le checkSize (checkOf (fillSectorOf (now (area .entry)))))) ⌝ }
+{
+    if k == 0 {
+        return;
+    }
+    let check = check_of(area, FILL_AT);
+    runs::repeat_u16(check_area, (CHECK_U64 * next) as usize, check, k as usize);
+}
+
 // The device after k sectors of its fill.
 fn moved_on(d: Device, k: u32) -> Device
     requires { ⌜ k ≤ remaining (asFill (d .command .fill)) ⌝ }
@@ -77,17 +94,19 @@ fn moved_on(d: Device, k: u32) -> Device
 }
 
 // "writes the next sectors of a running fill, as many as n and what is left allow, and reports how many it wrote": n is a budget.
-pub fn work(device: &mut [u8], area: &[u8], disk: &mut [u8], n: u32) -> u32
-    requires { ⌜ (sound (now device) ≡ true) × (length (now area) ≡ privateSize) × (length (now disk) ≡ sectorSize * decode (now device) .device .visible) ⌝ }
-    ensures count { λ k. ⌜ k ≡ workDone (now (device .entry)) (now (area .entry)) (now (disk .entry)) n .count ⌝ }
-    ensures bytes { λ _. ⌜ now (device .exit) ≡ workDone (now (device .entry)) (now (area .entry)) (now (disk .entry)) n .recordArea ⌝ }
-    ensures disk { λ _. ⌜ now (disk .exit) ≡ workDone (now (device .entry)) (now (area .entry)) (now (disk .entry)) n .disk ⌝ }
+pub fn work(device: &mut [u8], area: &[u8], disk: &mut [u8], check_area: &mut [u8], n: u32) -> u32
+    requires { ⌜ (sound (now device) ≡ true) × (length (now area) ≡ privateSize) × HasSize (decode (now device) .device .visible) (diskOf (now disk) (now «check_area»)) ⌝ }
+    ensures count { λ k. ⌜ k ≡ workDone (now (device .entry)) (now (area .entry)) (diskOf (now (disk .entry)) (now («check_area» .entry))) n .count ⌝ }
+    ensures bytes { λ _. ⌜ now (device .exit) ≡ workDone (now (device .entry)) (now (area .entry)) (diskOf (now (disk .entry)) (now («check_area» .entry))) n .recordArea ⌝ }
+    ensures disk { λ _. ⌜ diskOf (now (disk .exit)) (now («check_area» .exit)) ≡ workDone (now (device .entry)) (now (area .entry)) (diskOf (now (disk .entry)) (now («check_area» .entry))) n .disk ⌝ }
 {
     let d = record::decode(device);
     let c = d.command;
     let fill = c.fill;
     let k = count_of(n, fill);
-    write_sectors(disk, area, record::next_sector(fill), k);
+    let next = record::next_sector(fill);
+    write_sectors(disk, area, next, k);
+    write_check_bytes(check_area, area, next, k);
     let e = moved_on(d, k);
     record_write::write(device, e);
     k

@@ -9,7 +9,8 @@ use lib.Dec.{leb, ltb}
 use borrow.Author.Tests.{eqb-true, leb-true, ltb-true}
 use Rattle.wire.specs.Choice.{firstFailed}
 use Rattle.wire.proofs.ChoiceLaws.{and-left, and-right, all-pass, pass-all}
-use Rattle.model.specs.Sizes.{sectorSize, entrySize, entryLimit}
+use Rattle.model.specs.Sizes.{entrySize, entryLimit}
+use Rattle.model.specs.Disk.{Disk, nativeSize}
 use Rattle.model.specs.Image.{entries, imageChecks}
 use Rattle.store.specs.Areas.{recordSize, privateSize}
 use Rattle.store.specs.Sound.{sound}
@@ -30,16 +31,16 @@ save-passed r image used e z =
       number = ltb-true (entries used) entryLimit (and-left (ltb (entries used) entryLimit) (leb (used + entrySize) (length image)) room);
     }
 
-pub record PowerOnPassed (r a disk image : List ℕ) (used : ℕ) : Type 0 where
+pub record PowerOnPassed (r a : List ℕ) (disk : Disk) (image : List ℕ) (used : ℕ) : Type 0 where
   pub recordSized : length r ≡ recordSize
   pub areaSized : length a ≡ privateSize
-  pub readable : firstFailed (imageChecks (length disk / sectorSize) image used) ≡ 0
+  pub readable : firstFailed (imageChecks (nativeSize disk) image used) ≡ 0
 
-pub power-on-passed : (r a disk image : List ℕ) (used : ℕ) {n : ℕ} → n ≡ firstFailed (powerOnChecks r a disk image used) → n ≡ 0 → PowerOnPassed r a disk image used
+pub power-on-passed : (r a : List ℕ) (disk : Disk) (image : List ℕ) (used : ℕ) {n : ℕ} → n ≡ firstFailed (powerOnChecks r a disk image used) → n ≡ 0 → PowerOnPassed r a disk image used
 power-on-passed r a disk image used e z =
     let all = all-pass 7 (powerOnChecks r a disk image used) (omega arith) (sym e ∙ z) in
     record {
       recordSized = eqb-true (length r) recordSize (all .0);
       areaSized = eqb-true (length a) privateSize (all .1 .0);
-      readable = pass-all (imageChecks (length disk / sectorSize) image used) (all .1 .1 .1);
+      readable = pass-all (imageChecks (nativeSize disk) image used) (all .1 .1 .1);
     }

@@ -7,7 +7,7 @@ use lib.Dec.{eqb}
 use borrow.Author.Tests.{ne-eqb}
 use Rattle.wire.specs.Choice.{if_then_else_, between, firstFailed}
 use Rattle.model.specs.Device.{Device}
-use Rattle.model.specs.Key.{word, fillChecks, timerChecks, featureChecks, tableChecks, keyChecks, Action, sendTable, fillAction, timerAction, featureAction, actionOf, rejected, verdict, judgeKey}
+use Rattle.model.specs.Key.{word, longChecks, fillChecks, timerChecks, featureChecks, tableChecks, keyChecks, Action, sendTable, longAction, fillAction, timerAction, featureAction, actionOf, rejected, verdict, judgeKey}
 
 -- "0006h (read) or 0007h (write)"
 pub timer-refused : (name code : ℕ) (a : Action) → code ≡ (if eqb name 1 then 0x0006 else 0x0007)
@@ -24,9 +24,13 @@ module _ (locked : Bool) (visible : ℕ) (k : List ℕ) (d : Device) (lock : d .
   with-lock l = rw (lock, l)
 
   module _ (unlocked : locked ≡ false) where
-    pub with-action : between 2 (word k 0) 5 ≡ false → rejected 0x0010 ≡ judgeKey d k
+    pub with-action : between 1 (word k 0) 5 ≡ false → rejected 0x0010 ≡ judgeKey d k
     unfolding judgeKey keyChecks
     with-action b = rw (lock, unlocked, b)
+
+    pub with-long : word k 0 ≡ 1 → verdict (firstFailed (longChecks visible k)) (longAction k) ≡ judgeKey d k
+    unfolding judgeKey keyChecks actionOf
+    with-long w = rw (lock, unlocked, size, w)
 
     pub with-fill : word k 0 ≡ 2 → verdict (firstFailed (fillChecks visible k)) (fillAction visible k) ≡ judgeKey d k
     unfolding judgeKey keyChecks actionOf
@@ -40,7 +44,7 @@ module _ (locked : Bool) (visible : ℕ) (k : List ℕ) (d : Device) (lock : d .
     unfolding judgeKey keyChecks actionOf
     with-feature w = rw (lock, unlocked, size, w)
 
-    pub with-table : between 2 (word k 0) 5 ≡ true → (word k 0 ≡ 2 → ⊥) → (word k 0 ≡ 3 → ⊥) → (word k 0 ≡ 4 → ⊥)
+    pub with-table : between 1 (word k 0) 5 ≡ true → (word k 0 ≡ 1 → ⊥) → (word k 0 ≡ 2 → ⊥) → (word k 0 ≡ 3 → ⊥) → (word k 0 ≡ 4 → ⊥)
         → verdict (firstFailed (tableChecks k)) sendTable ≡ judgeKey d k
     unfolding judgeKey keyChecks actionOf
-    with-table b two three four = rw (lock, unlocked, size, b, ne-eqb (word k 0) 2 two, ne-eqb (word k 0) 3 three, ne-eqb (word k 0) 4 four)
+    with-table b one two three four = rw (lock, unlocked, size, b, ne-eqb (word k 0) 1 one, ne-eqb (word k 0) 2 two, ne-eqb (word k 0) 3 three, ne-eqb (word k 0) 4 four)

@@ -13,13 +13,14 @@ ghost use Rattle.wire.specs.Choice.{if_then_else_, between, firstFailed};
 ghost use Rattle.wire.specs.Parts.{part};
 ghost use Rattle.model.specs.Sizes.{sectorSize};
 ghost use Rattle.model.specs.Device.{Device};
-ghost use Rattle.model.specs.Key.{word, start, count, highestState, timerName, featureName, fillChecks, timerChecks, featureChecks, tableChecks, fillEnd, fillPattern, fillSector, fillAction, timerAction, setFeature, returnState, returnOption, featureAction, sendTable, patternSector, verdict, judgeKey};
+ghost use Rattle.model.specs.Key.{word, longLba, start, count, highestState, directionOf, featureName, longChecks, fillChecks, timerChecks, featureChecks, tableChecks, fillEnd, fillPattern, fillSector, longAction, fillAction, timerAction, setFeature, returnState, returnOption, featureAction, sendTable, patternSector, verdict, judgeKey};
 ghost use Rattle.record.specs.DeviceMeaning.{asDirection, asFeatureName};
 ghost use Rattle.key.specs.VerdictMeaning.{asAction, asVerdict, refusalOf};
 
-// A fill's numbers are its first sector and its end. A timer is set to a number of 100 ms; a feature to a state, with true if the
-// option is 1: "Option 1 keeps a state over power".
+// A long sector access has its direction and LBA. A fill's numbers are its first sector and its end. A timer is set to a number of 100 ms; a
+// feature to a state, with true if the option is 1: "Option 1 keeps a state over power".
 pub enum Action {
+    AccessLong(Direction, u64),
     FillPattern(u64, u64),
     FillSector(u64, u64),
     SetTimer(Direction, u16),
@@ -72,6 +73,30 @@ fn sum_within(first: u64, sectors: u64, visible: u64) -> bool
     sectors <= visible - first
 }
 
+// "functions 1 (read) and 2 (write)"; of timers: "word 2 is 1 read or 2 write"
+fn direction_of(n: u16) -> Direction
+    ensures { λ r. ⌜ asDirection r ≡ directionOf n ⌝ }
+{
+    if n == sct::READ {
+        return Direction::Read;
+    }
+    Direction::Write
+}
+
+// Action 1 (W-202): "functions 1 (read) and 2 (write), LBA in words 2 to 5"; "function 000Ah, LBA 0002h after it".
+fn long_key(function: u16, lba: u64, visible: u64) -> Verdict
+    ensures { λ r. ⌜ ((k : List ℕ) → word k 1 ≡ function → longLba k ≡ lba → asVerdict r (patternSector k) ≡ verdict (firstFailed (longChecks visible k)) (longAction k)) ⌝ }
+{
+    if !between(sct::READ, function, sct::WRITE) {
+        return Verdict::Rejected(sct::INVALID_LONG_FUNCTION);
+    }
+    if lba >= visible {
+        return Verdict::Rejected(sct::LBA_OUT_OF_RANGE);
+    }
+    let dir = direction_of(function);
+    Verdict::Accepted(Action::AccessLong(dir, lba))
+}
+
 // "1 pattern, 2 sector"
 fn fill_asked(function: u16, first: u64, end: u64) -> Action
     ensures { λ r. ⌜ ((sector : List ℕ) → asAction r sector ≡ (if eqb function 1 then fillPattern first end sector else fillSector first end)) ⌝ }
@@ -103,21 +128,11 @@ fn fill_key(function: u16, first: u64, sectors: u64, visible: u64) -> Verdict
     Verdict::Accepted(action)
 }
 
-// "word 2 is 1 read or 2 write"
-fn timer_name(name: u16) -> Direction
-    ensures { λ r. ⌜ asDirection r ≡ timerName name ⌝ }
-{
-    if name == sct::READ_TIMER {
-        return Direction::Read;
-    }
-    Direction::Write
-}
-
 // "0006h (read) or 0007h (write)"
 fn timer_code(name: u16) -> u16
     ensures { λ r. ⌜ r ≡ (if eqb name 1 then 0x0006 else 0x0007) ⌝ }
 {
-    if name == sct::READ_TIMER {
+    if name == sct::READ {
         return sct::READ_TIMER_BELOW_MINIMUM;
     }
     sct::WRITE_TIMER_BELOW_MINIMUM
@@ -131,10 +146,10 @@ fn timer_key(function: u16, name: u16, time: u16) -> Verdict
     if !between(sct::TIMER_SET, function, sct::TIMER_RETURN) {
         return Verdict::Rejected(sct::INVALID_TIMER_FUNCTION);
     }
-    if !between(sct::READ_TIMER, name, sct::WRITE_TIMER) {
+    if !between(sct::READ, name, sct::WRITE) {
         return Verdict::Rejected(sct::INVALID_TIMER_SELECTION);
     }
-    let dir = timer_name(name);
+    let dir = direction_of(name);
     if function == sct::TIMER_SET {
         if between(1, time, sct::TIMER_TOO_SHORT) {
             return Verdict::Rejected(timer_code(name));
@@ -225,7 +240,7 @@ fn table_key(function: u16, name: u16) -> Verdict
     Verdict::Accepted(Action::SendTable)
 }
 
-// The key sector at `at`: the lock comes first, with 0012h; then an action that is "not 2 to 5", with 0010h; then the action's checks.
+// The key sector at `at`: the lock comes first, with 0012h; then an action that is not 1 to 5, with 0010h; then the action's checks.
 // A key's checks read only the lock and V of the device.
 pub fn read_key(area: &[u8], at: usize, locked: bool, visible: u64) -> Verdict
     requires { ⌜ (at + sectorSize ≤ length (now area)) × (1 ≤ visible) ⌝ }
@@ -235,10 +250,13 @@ pub fn read_key(area: &[u8], at: usize, locked: bool, visible: u64) -> Verdict
         return Verdict::Rejected(sct::LOCKED);
     }
     let action = u16_at(area, at);
-    if !between(sct::ACTION_FILL, action, sct::ACTION_TABLE) {
+    if !between(sct::ACTION_LONG, action, sct::ACTION_TABLE) {
         return Verdict::Rejected(sct::INVALID_ACTION);
     }
     let function = u16_at(area, at + sct::FUNCTION_AT);
+    if action == sct::ACTION_LONG {
+        return long_key(function, u64_at(area, at + sct::LBA_AT), visible);
+    }
     if action == sct::ACTION_FILL {
         return fill_key(
             function,

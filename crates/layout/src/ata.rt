@@ -46,7 +46,8 @@ pub const SCT_STATUS_LOG: u8 = 0xE0;
 
 pub const SCT_DATA_LOG: u8 = 0xE1;
 
-// "Good: Status 50h, Error 0. Refused: Status 51h"; the errors 04h (command aborted) and 10h (ID not found: no such sector)
+// "Good: Status 50h, Error 0. Refused: Status 51h"; the errors 04h (command aborted), 10h (ID not found: no such sector)
+// and 40h (uncorrectable data: the sector's check differs)
 pub const STATUS_GOOD: u8 = 0x50;
 
 pub const STATUS_REFUSED: u8 = 0x51;
@@ -56,3 +57,5 @@ pub const NO_ERROR: u8 = 0;
 pub const ERROR_ABORTED: u8 = 0x04;
 
 pub const ERROR_NOT_FOUND: u8 = 0x10;
+
+pub const ERROR_UNCORRECTABLE: u8 = 0x40;

@@ -17,14 +17,24 @@ pub const SECTOR_U64: u64 = SECTOR as u64;
 
 pub const NATIVE_LIMIT: u64 = 65536;
 
-// "A mailbox is 528 bytes: 16 of registers, then a 512-byte sector." A slot has the same layout.
+// W-202: "a lent check area, two bytes a sector"
+pub const CHECK: usize = 2;
+
+pub const CHECK_U64: u64 = CHECK as u64;
+
+// "A mailbox is 528 bytes: 16 of registers, then a 512-byte sector."; W-202: "A long transfer is two sectors, so mailboxes and slots grow to
+// 1,040 bytes". A slot has the same layout.
 pub const REGISTERS: usize = 16;
 
-pub const DATA: usize = SECTOR;
+pub const LONG_SECTORS: usize = 2;
+
+pub const LONG_SECTORS_U16: u16 = LONG_SECTORS as u16;
+
+pub const DATA: usize = LONG_SECTORS * SECTOR;
 
 pub const MAILBOX: usize = REGISTERS + DATA;
 
-// "Private area, 2,624 bytes: four slots of 528, then the fill sector."
+// "Private area, 2,624 bytes: four slots of 528, then the fill sector.": 4,672 bytes since W-202, with slots of 1,040.
 pub const PORTS: usize = 4;
 
 pub const PORTS_U32: u32 = PORTS as u32;

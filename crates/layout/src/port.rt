@@ -24,3 +24,7 @@ pub const NO_TRANSFER: u8 = 0;
 pub const TABLE: u8 = 1;
 
 pub const FILL_DATA: u8 = 2;
+
+pub const READ_LONG: u8 = 3;
+
+pub const WRITE_LONG: u8 = 4;

@@ -1,8 +1,10 @@
 // The key sector: its places, the actions, functions and selections that it names, and the extended status codes.
 
-// "Words 0 and 1 are action and function"; "Start bytes 4-11, Count 12-19"; "bytes 20-23 repeated 128 times". Actions 3 to 5 have words instead:
-// what is selected (word 2), a value (word 3), an option (word 4).
+// "Words 0 and 1 are action and function"; "LBA in words 2 to 5" (W-202); "Start bytes 4-11, Count 12-19"; "bytes 20-23 repeated 128 times". Actions 3
+// to 5 have words instead: what is selected (word 2), a value (word 3), an option (word 4).
 pub const FUNCTION_AT: usize = 2;
+
+pub const LBA_AT: usize = 4;
 
 pub const START_AT: usize = 4;
 
@@ -18,7 +20,9 @@ pub const VALUE_AT: usize = 6;
 
 pub const OPTION_AT: usize = 8;
 
-// "2 fill", "3 timers", "4 feature", "5 table"
+// W-202: "action 0001h"; "2 fill", "3 timers", "4 feature", "5 table"
+pub const ACTION_LONG: u16 = 1;
+
 pub const ACTION_FILL: u16 = 2;
 
 pub const ACTION_TIMER: u16 = 3;
@@ -26,6 +30,11 @@ pub const ACTION_TIMER: u16 = 3;
 pub const ACTION_FEATURE: u16 = 4;
 
 pub const ACTION_TABLE: u16 = 5;
+
+// Long Sector Access, function: "1 (read) and 2 (write)". Timers, word 2: "1 read or 2 write".
+pub const READ: u16 = 1;
+
+pub const WRITE: u16 = 2;
 
 // Fill: "1 pattern, 2 sector". Timers: "1 set, 2 return". Feature: "1 set, 2 state, 3 options". Table: "1".
 pub const FILL_PATTERN: u16 = 1;
@@ -44,11 +53,7 @@ pub const FEATURE_OPTIONS: u16 = 3;
 
 pub const TABLE_READ: u16 = 1;
 
-// "word 2 is 1 read or 2 write"; "1 (write cache) ..; 2 (reordering) ..; 3 (log interval)"; "word 2 is 2"
-pub const READ_TIMER: u16 = 1;
-
-pub const WRITE_TIMER: u16 = 2;
-
+// "1 (write cache) ..; 2 (reordering) ..; 3 (log interval)"; "word 2 is 2"
 pub const WRITE_CACHE: u16 = 1;
 
 pub const REORDERING: u16 = 2;
@@ -87,6 +92,8 @@ pub const READ_TIMER_BELOW_MINIMUM: u16 = 0x0006;
 pub const WRITE_TIMER_BELOW_MINIMUM: u16 = 0x0007;
 
 pub const INTERRUPTED: u16 = 0x0008;
+
+pub const INVALID_LONG_FUNCTION: u16 = 0x000A;
 
 pub const NO_TRANSFER: u16 = 0x000B;
 

@@ -10,7 +10,7 @@ use Rattle.wire.specs.Numbers.{get}
 use Rattle.wire.proofs.NumbersLaws.{get-join}
 use Rattle.model.specs.Device.{Device}
 use Rattle.model.specs.Registers.{Direction, read, write}
-use Rattle.model.specs.Key.{word, start, count, FeatureName, writeCache, reordering, logInterval, Action, setTimer, returnTimer, setFeature, returnState, returnOption, sendTable, timerName, featureName, actionOf, accepted, judgeKey}
+use Rattle.model.specs.Key.{word, start, count, longLba, FeatureName, writeCache, reordering, logInterval, Action, accessLong, setTimer, returnTimer, setFeature, returnState, returnOption, sendTable, directionOf, featureName, actionOf, accepted, judgeKey}
 use Rattle.model.proofs.KeyLaws.{featureNumber, key-accepted}
 
 -- ---- the bytes of a key's numbers
@@ -27,16 +27,20 @@ start-bytes k = get-join 4 4 k 4
 pub count-bytes : (k : List ℕ) → count k ≡ get 4 k 12 + 2 ^ 32 * get 4 k 16
 count-bytes k = get-join 4 4 k 12
 
+-- W-202: "LBA in words 2 to 5"
+pub long-words : (k : List ℕ) → longLba k ≡ word k 2 + 2 ^ 16 * word k 3 + 2 ^ 32 * word k 4 + 2 ^ 48 * word k 5
+long-words k = omega (arith, get-join 2 6 k 4, get-join 2 4 k 6, get-join 2 2 k 8)
+
 -- ---- names
 
--- "word 2 is 1 read or 2 write"
-abbrev pub timerNumber : Direction → ℕ
-timerNumber read = 1
-timerNumber write = 2
+-- timers: "word 2 is 1 read or 2 write"; W-202: "functions 1 (read) and 2 (write)"
+abbrev pub directionNumber : Direction → ℕ
+directionNumber read = 1
+directionNumber write = 2
 
-pub timer-named : (t : Direction) → timerName (timerNumber t) ≡ t
-timer-named read = refl
-timer-named write = refl
+pub direction-named : (t : Direction) → directionOf (directionNumber t) ≡ t
+direction-named read = refl
+direction-named write = refl
 
 -- "1 (write cache)", "2 (reordering)", "3 (log interval)"
 pub feature-named : (f : FeatureName) → featureName (featureNumber f) ≡ f
@@ -59,14 +63,19 @@ module _ (d : Device) (k : List ℕ) (a : Action) (accepts : judgeKey d k ≡ ac
   asked : a ≡ actionOf (d .visible) k
   asked = key-accepted d k a accepts .1
 
-  -- "3 timers": "1 set, 2 return"
-  pub accepted-set-timer : (t : Direction) → word k 0 ≡ 3 → word k 1 ≡ 1 → word k 2 ≡ timerNumber t → a ≡ setTimer t (word k 3)
+  -- W-202: "action 0001h, functions 1 (read) and 2 (write)"
+  pub accepted-long : (dir : Direction) → word k 0 ≡ 1 → word k 1 ≡ directionNumber dir → a ≡ accessLong dir (get 8 k 4)
   unfolding actionOf
-  accepted-set-timer t three one two = asked ∙ rw (three, one, two, timer-named t)
+  accepted-long dir one f = asked ∙ rw (one, f, direction-named dir)
 
-  pub accepted-return-timer : (t : Direction) → word k 0 ≡ 3 → word k 1 ≡ 2 → word k 2 ≡ timerNumber t → a ≡ returnTimer t
+  -- "3 timers": "1 set, 2 return"
+  pub accepted-set-timer : (t : Direction) → word k 0 ≡ 3 → word k 1 ≡ 1 → word k 2 ≡ directionNumber t → a ≡ setTimer t (word k 3)
   unfolding actionOf
-  accepted-return-timer t three one two = asked ∙ rw (three, one, two, timer-named t)
+  accepted-set-timer t three one two = asked ∙ rw (three, one, two, direction-named t)
+
+  pub accepted-return-timer : (t : Direction) → word k 0 ≡ 3 → word k 1 ≡ 2 → word k 2 ≡ directionNumber t → a ≡ returnTimer t
+  unfolding actionOf
+  accepted-return-timer t three one two = asked ∙ rw (three, one, two, direction-named t)
 
   -- "4 feature": "1 set, 2 state, 3 options"
   pub accepted-set-feature : (f : FeatureName) (keep : Bool) → word k 0 ≡ 4 → word k 1 ≡ 1 → word k 2 ≡ featureNumber f → word k 4 ≡ optionNumber keep

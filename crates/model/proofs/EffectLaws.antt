@@ -5,14 +5,14 @@ use mathlib.Core.Logic.{_⊎_, inl, inr}
 use mathlib.Core.List.{List}
 use Prim.Native.Nat.{ℕ, zero, suc}
 use Rattle.wire.specs.Choice.{if_then_else_, firstFailed, ifPassed}
-use Rattle.model.specs.Device.{Transfer, none, table, fillData, Device}
-use Rattle.model.specs.Disk.{Disk}
+use Rattle.model.specs.Device.{Transfer, none, table, fillData, readLong, writeLong, Device}
+use Rattle.model.specs.Disk.{Disk, LongSector}
 use Rattle.model.specs.Update.{withCode, withKey}
-use Rattle.model.specs.Registers.{Direction, read, write, Request, statusRead, keySector, dataTransfer, sectorAccess, other, dataOf, requestOf, good, refused, refusedWith}
-use Rattle.model.specs.Key.{word, Action, fillPattern, fillSector, setTimer, returnTimer, setFeature, returnState, returnOption, sendTable, Verdict, accepted, rejected, judgeKey}
+use Rattle.model.specs.Registers.{Direction, read, write, Request, statusRead, keySector, dataTransfer, sectorAccess, other, dataOf, longDataOf, requestOf, good, refused, refusedWith}
+use Rattle.model.specs.Key.{word, Action, accessLong, fillPattern, fillSector, setTimer, returnTimer, setFeature, returnState, returnOption, sendTable, Verdict, accepted, rejected, judgeKey}
 use Rattle.model.specs.Fill.{interrupt}
 use Rattle.model.specs.Decide.{Serving, Writing, noWrite, Sending, noData, status, Effect, nothing, sending, Decision, decision, carryOut, decideVerdict, decideKey, dataChecks, transferEffect, decideData, sectorChecks, sectorEffect, decideSector, pendingFor, decideRequest, decide}
-use Rattle.model.specs.Perform.{written, volumeAfter, contentRead, replyWith, replyOf}
+use Rattle.model.specs.Perform.{written, volumeAfter, sectorRead, replyWith, replyOf}
 
 abbrev pub OnePart : Effect → Type 0
 OnePart e = (e .writes ≡ noWrite) ⊎ (e .sends ≡ noData)
@@ -28,6 +28,7 @@ either-part false x y p q = q
 
 carried-part : (a : Action) (p : ℕ) (d : Device) → OnePart (carryOut a p d .effect)
 unfolding carryOut
+carried-part (accessLong dir lba) p d = inr refl
 carried-part (fillPattern first end sector) p d = inr refl
 carried-part (fillSector first end) p d = inr refl
 carried-part (setTimer t n) p d = inr refl
@@ -41,10 +42,12 @@ verdict-part : (v : Verdict) (p : ℕ) (d : Device) → OnePart (decideVerdict v
 verdict-part (accepted a) p d = carried-part a p (withCode 0x0000 d)
 verdict-part (rejected code) p d = inr refl
 
-transfer-part : (t : Transfer) (sector : List ℕ) → OnePart (transferEffect t sector)
-transfer-part none sector = inr refl
-transfer-part table sector = inl refl
-transfer-part (fillData first end) sector = inr refl
+transfer-part : (t : Transfer) (x : LongSector) → OnePart (transferEffect t x)
+transfer-part none x = inr refl
+transfer-part table x = inl refl
+transfer-part (fillData first end) x = inr refl
+transfer-part (readLong lba) x = inl refl
+transfer-part (writeLong lba) x = inr refl
 
 sector-part : (dir : Direction) (lba : ℕ) (sector : List ℕ) → OnePart (sectorEffect dir lba sector)
 sector-part read lba sector = inl refl
@@ -58,8 +61,8 @@ request-part keySector s m d =
 request-part (dataTransfer dir count) s m d =
     let t = pendingFor (s .port) d in
     let code = firstFailed (dataChecks (interrupt d .locked) dir count t) in
-    chosen-part code (decision (withCode 0x0000 (interrupt d)) (good 0 0) (transferEffect t (dataOf m))) (decision (withCode code (interrupt d)) (refusedWith code) nothing)
-    (transfer-part t (dataOf m))
+    chosen-part code (decision (withCode 0x0000 (interrupt d)) (good 0 0) (transferEffect t (longDataOf m))) (decision (withCode code (interrupt d)) (refusedWith code) nothing)
+    (transfer-part t (longDataOf m))
     (inr refl)
 request-part (sectorAccess dir count lba) s m d =
     let error = firstFailed (sectorChecks (interrupt d) count lba) in
@@ -77,8 +80,8 @@ order-free : (c : Decision) (disk : Disk) → OnePart (c .effect) → replyOf c 
 order-free c disk (inl e) = ap (λ (w : Writing). replyOf c (written w (record { device = c .device; disk = disk }))) e
 order-free c disk (inr e) =
     let v = volumeAfter c disk in
-    ap (λ (x : Sending). replyWith (c .registers) x (v .device) (contentRead x (v .disk))) e
-    ∙ sym (ap (λ (x : Sending). replyWith (c .registers) x (c .device) (contentRead x disk)) e)
+    ap (λ (x : Sending). replyWith (c .registers) x (v .device) (sectorRead x (v .disk))) e
+    ∙ sym (ap (λ (x : Sending). replyWith (c .registers) x (c .device) (sectorRead x disk)) e)
 
 -- .. so its reply is the one for the device and the disk before the write
 pub reply-before : (s : Serving) (m : List ℕ) (d : Device) (disk : Disk)

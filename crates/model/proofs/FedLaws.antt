@@ -1,7 +1,7 @@
 -- What is required of what a step is fed: that bytes are bytes, and nothing else.
 use Prim.Native.Nat.{ℕ, _<_}
 use Rattle.wire.specs.Bytes.{Bytes}
-use Rattle.model.specs.Step.{OwnerStep, lock, unlock, setVisible, sample, Step, take, serve, give, work, owner, save, powerOn}
+use Rattle.model.specs.Step.{OwnerStep, lock, unlock, setVisible, sample, Step, take, serve, give, work, owner, repair, save, powerOn}
 use Rattle.model.specs.Valid.{OwnerFed, Fed}
 use Rattle.model.proofs.StepLaws.{mailboxOf, imageOf}
 
@@ -18,6 +18,7 @@ readingOf (serve s) = 0
 readingOf (give p m) = 0
 readingOf (work n) = 0
 readingOf (owner x) = ownerReading x
+readingOf (repair lba) = 0
 readingOf (save image used) = 0
 readingOf (powerOn image used) = 0
 
@@ -34,5 +35,6 @@ fed (serve s) b i r = tt
 fed (give p m) b i r = tt
 fed (work n) b i r = tt
 fed (owner x) b i r = owner-fed x r
+fed (repair lba) b i r = tt
 fed (save image used) b i r = tt
 fed (powerOn image used) b i r = i

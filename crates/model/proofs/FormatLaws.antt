@@ -5,7 +5,7 @@ use Prim.Native.Nat.{ℕ, zero, _+_, _-_, _/_, _%_, _^_, _≤_, _<_}
 use native.Mathlib.Omega.{arith}
 use mathlib.Core.List.{List, [], _∷_, _++_, append-nil, append-assoc}
 use lib.ListN.{length, getD, take, length-append, List·getD-append}
-use lib.Seq.{take-at, drop-at}
+use lib.Seq.{take-at, drop-at, getD-append-add}
 use lib.Dec.{ltb}
 use borrow.Author.Tests.{le-ltb}
 use Rattle.wire.specs.Choice.{bit}
@@ -15,7 +15,7 @@ use Rattle.wire.specs.Layout.{Field, form, Fit, Reads, outside}
 use Rattle.wire.specs.Bytes.{Bytes}
 use Rattle.wire.proofs.ChoiceLaws.{bit-small, below, below-all}
 use Rattle.wire.proofs.NumbersLaws.{get-append-left}
-use Rattle.wire.proofs.PartsLaws.{part-append-right, length-padded, length-zeros}
+use Rattle.wire.proofs.PartsLaws.{part-append-left, part-append-right, length-padded, length-zeros, getD-zeros}
 use Rattle.wire.proofs.LayoutLaws.{length-form, reads-form, reads-front, form-outside}
 use Rattle.wire.proofs.BytesLaws.{bytes-append, bytes-form, bytes-padded}
 use Rattle.model.specs.Sizes.{sectorSize, nativeLimit, registersSize, mailboxSize, historySize, dataSize}
@@ -247,12 +247,29 @@ reply-at r s f h =
       size = reply-length r s h;
     }
 
--- the sector of a reply is the data returned ..
-pub reply-data : (r : Registers) (s : List ℕ) → length s ≡ sectorSize → part (replyBytes r s) registersSize sectorSize ≡ s
-reply-data r s h =
-    ap (λ (m : List ℕ). part m registersSize sectorSize) (reply-split r s)
-    ∙ ap (take sectorSize) (drop-at (registersBytes r) (s ++ zeros (mailboxSize - length (registersBytes r ++ s))) registersSize (length-registers r))
-    ∙ take-at s (zeros (mailboxSize - length (registersBytes r ++ s))) sectorSize h
+pub reply-registers : (r : Registers) (s : List ℕ) → part (replyBytes r s) 0 registersSize ≡ registersBytes r
+reply-registers r s =
+    ap (λ (m : List ℕ). part m 0 registersSize) (reply-split r s)
+    ∙ part-append-left (registersBytes r) (s ++ zeros (mailboxSize - length (registersBytes r ++ s))) registersSize (length-registers r)
+
+-- the data returned follows the registers ..
+pub reply-data : (r : Registers) (s : List ℕ) (n : ℕ) → length s ≡ n → part (replyBytes r s) registersSize n ≡ s
+reply-data r s n h =
+    ap (λ (m : List ℕ). part m registersSize n) (reply-split r s)
+    ∙ ap (take n) (drop-at (registersBytes r) (s ++ zeros (mailboxSize - length (registersBytes r ++ s))) registersSize (length-registers r))
+    ∙ take-at s (zeros (mailboxSize - length (registersBytes r ++ s))) n h
+
+-- .. with "zeros behind" (W-202) ..
+pub reply-behind : (r : Registers) (s : List ℕ) (i : ℕ) → registersSize + length s ≤ i → getD (replyBytes r s) i 0 ≡ 0
+unfolding replyBytes padded
+reply-behind r s i h =
+    let front = registersBytes r ++ s in
+    let behind = zeros (mailboxSize - length front) in
+    let size : length front ≡ registersSize + length s = rw (length-append, length-registers r) in
+    let place : i ≡ length front + (i - length front) = omega (arith, size) in
+    ap (λ (j : ℕ). getD (front ++ behind) j 0) place
+    ∙ getD-append-add front behind (i - length front) 0
+    ∙ getD-zeros (mailboxSize - length front) (i - length front)
 
 -- .. and "zeros unless data is returned"
 pub reply-no-data : (r : Registers) → part (replyBytes r []) registersSize dataSize ≡ zeros dataSize

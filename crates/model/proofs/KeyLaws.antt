@@ -8,7 +8,7 @@ use native.Mathlib.Decide.{decLt}
 use mathlib.Core.List.{List, [], _∷_, _++_}
 use lib.ListN.{length, getD, length-append}
 use lib.Dec.{eqb, leb, ltb}
-use borrow.Author.Tests.{eqb-true, eqb-false, eq-eqb, ne-eqb, leb-true, not-true}
+use borrow.Author.Tests.{eqb-true, eqb-false, ne-eqb, leb-true, ltb-true, not-true}
 use Rattle.wire.specs.Choice.{if_then_else_, between, Check, firstFailed}
 use Rattle.wire.specs.Numbers.{get}
 use Rattle.wire.specs.Parts.{part, repeated}
@@ -19,7 +19,7 @@ use Rattle.wire.proofs.BytesLaws.{bytes-part, bytes-repeated, get-fits}
 use Rattle.model.specs.Sizes.{sectorSize}
 use Rattle.model.specs.Device.{Device}
 use Rattle.model.specs.Registers.{Direction, read, write}
-use Rattle.model.specs.Key.{word, start, count, lastLba, fillChecks, timerChecks, highestState, featureChecks, tableChecks, actionChecks, keyChecks, FeatureName, writeCache, reordering, logInterval, Action, fillPattern, fillSector, setTimer, returnTimer, setFeature, returnState, returnOption, sendTable, patternSector, fillEnd, timerName, featureName, fillAction, timerAction, featureAction, actionOf, Verdict, accepted, rejected, verdict, judgeKey}
+use Rattle.model.specs.Key.{word, start, count, longLba, lastLba, longChecks, fillChecks, timerChecks, highestState, featureChecks, tableChecks, actionChecks, keyChecks, FeatureName, writeCache, reordering, logInterval, Action, accessLong, fillPattern, fillSector, setTimer, returnTimer, setFeature, returnState, returnOption, sendTable, patternSector, fillEnd, directionOf, featureName, longAction, fillAction, timerAction, featureAction, actionOf, Verdict, accepted, rejected, verdict, judgeKey}
 use Rattle.model.specs.Valid.{TimerValid, Sized}
 
 -- ---- which row decides
@@ -27,20 +27,29 @@ use Rattle.model.specs.Valid.{TimerValid, Sized}
 -- every code of the key table is between 1 and 12h
 pub key-codes : (d : Device) (k : List ℕ) → Numbered 0x12 (keyChecks d k)
 unfolding keyChecks
-key-codes d k = (omega arith, omega arith, (omega arith, omega arith, go (eqb (word k 0) 2) (eqb (word k 0) 3) (eqb (word k 0) 4)))
+key-codes d k = (omega arith, omega arith, (omega arith, omega arith, go (eqb (word k 0) 1) (eqb (word k 0) 2) (eqb (word k 0) 3) (eqb (word k 0) 4)))
   where
     timer-code : (b : Bool) → (0 < (if b then 0x0006 else 0x0007)) × ((if b then 0x0006 else 0x0007) ≤ 0x12)
     timer-code true = (omega arith, omega arith)
     timer-code false = (omega arith, omega arith)
 
-    go : (a b c : Bool)
-        → Numbered 0x12 (if a then fillChecks (d .visible) k else if b then timerChecks k else if c then featureChecks k else tableChecks k)
-    go true b c = (omega arith, omega arith, (omega arith, omega arith, (omega arith, omega arith, tt)))
-    go false true c =
+    go : (a b c e : Bool)
+        → Numbered 0x12
+        (if a then longChecks (d .visible) k
+        else if b
+        then fillChecks (d .visible) k
+        else if c
+        then timerChecks k
+        else if e
+        then featureChecks k
+        else tableChecks k)
+    go true b c e = (omega arith, omega arith, (omega arith, omega arith, tt))
+    go false true c e = (omega arith, omega arith, (omega arith, omega arith, (omega arith, omega arith, tt)))
+    go false false true e =
         let t = timer-code (eqb (word k 2) 1) in
         (omega arith, omega arith, (omega arith, omega arith, (t .0, t .1, tt)))
-    go false false true = (omega arith, omega arith, (omega arith, omega arith, (omega arith, omega arith, (omega arith, omega arith, tt))))
-    go false false false = (omega arith, omega arith, (omega arith, omega arith, tt))
+    go false false false true = (omega arith, omega arith, (omega arith, omega arith, (omega arith, omega arith, (omega arith, omega arith, tt))))
+    go false false false false = (omega arith, omega arith, (omega arith, omega arith, tt))
 
 -- "Checks, in order": the first row that fails gives the code.
 pub key-rejected : (d : Device) (k : List ℕ) (before : List Check) (code : ℕ) (rest : List Check)
@@ -70,7 +79,7 @@ verdict-rejected (suc n) a code e = cc
 pub accepted-fill-sum : (d : Device) (k : List ℕ) (a : Action) → word k 0 ≡ 2 → judgeKey d k ≡ accepted a → start k + count k ≤ d .visible
 unfolding keyChecks
 accepted-fill-sum d k a two e =
-    let rows : AllPass (fillChecks (d .visible) k) = rw (eq-eqb (word k 0) 2 two) at (key-accepted d k a e .0 .1 .1) in
+    let rows : AllPass (fillChecks (d .visible) k) = rw two at (key-accepted d k a e .0 .1 .1) in
     let sum = leb-true (start k + count k) _ (rows .1 .1 .0) in
     omega (arith, sum)
 
@@ -78,12 +87,12 @@ accepted-fill-sum d k a two e =
 pub accepted-pattern : (d : Device) (k : List ℕ) (a : Action) → word k 0 ≡ 2 → word k 1 ≡ 1 → judgeKey d k ≡ accepted a
     → a ≡ fillPattern (start k) (fillEnd (d .visible) k) (patternSector k)
 unfolding actionOf
-accepted-pattern d k a two one e = key-accepted d k a e .1 ∙ rw (eq-eqb (word k 0) 2 two, eq-eqb (word k 1) 1 one)
+accepted-pattern d k a two one e = key-accepted d k a e .1 ∙ rw (two, one)
 
 pub accepted-sector : (d : Device) (k : List ℕ) (a : Action) → word k 0 ≡ 2 → word k 1 ≡ 2 → judgeKey d k ≡ accepted a
     → a ≡ fillSector (start k) (fillEnd (d .visible) k)
 unfolding actionOf
-accepted-sector d k a two second e = key-accepted d k a e .1 ∙ rw (eq-eqb (word k 0) 2 two, second)
+accepted-sector d k a two second e = key-accepted d k a e .1 ∙ rw (two, second)
 
 pub fill-end-zero : (visible : ℕ) (k : List ℕ) → count k ≡ 0 → fillEnd visible k ≡ visible
 fill-end-zero visible k e = rw e
@@ -115,6 +124,7 @@ featureNumber logInterval = 3
 
 -- what an action's values must satisfy, for this visible size
 abbrev pub ActionValid : ℕ → Action → Type 0
+ActionValid visible (accessLong dir lba) = lba < visible
 ActionValid visible (fillPattern first end sector) = (first < end) × (end ≤ visible) × Sized sectorSize sector
 ActionValid visible (fillSector first end) = (first < end) × (end ≤ visible)
 ActionValid visible (setTimer t n) = TimerValid n × (n < 256 ^ 2)
@@ -176,7 +186,7 @@ module _ (visible : ℕ) (k : List ℕ) (some : 1 ≤ visible) (size : length k 
   timer-valid rows = go (eqb (word k 1) 1) (between 1 (word k 3) 9) refl refl (not-true _ (rows .1 .1 .0))
     where
       go : (b c : Bool) → eqb (word k 1) 1 ≡ b → between 1 (word k 3) 9 ≡ c → (b && c) ≡ false
-          → ActionValid visible (if b then setTimer (timerName (word k 2)) (word k 3) else returnTimer (timerName (word k 2)))
+          → ActionValid visible (if b then setTimer (directionOf (word k 2)) (word k 3) else returnTimer (directionOf (word k 2)))
       go false c p q e = tt
       go true true p q e = absurd (let z : _≡_ {A = ℕ} 0 1 = cc in omega arith)
       go true false p q e = (timer-range (word k 3) q, get-fits 2 k 6 bytes)
@@ -197,15 +207,32 @@ module _ (visible : ℕ) (k : List ℕ) (some : 1 ≤ visible) (size : length k 
   -- what the words of an accepted key ask for is in range
   action-valid : AllPass (actionChecks visible k) → ActionValid visible (actionOf visible k)
   unfolding actionOf
-  action-valid = go (eqb (word k 0) 2) (eqb (word k 0) 3) (eqb (word k 0) 4)
+  action-valid = go (eqb (word k 0) 1) (eqb (word k 0) 2) (eqb (word k 0) 3) (eqb (word k 0) 4)
     where
-      go : (a b c : Bool)
-          → AllPass (if a then fillChecks visible k else if b then timerChecks k else if c then featureChecks k else tableChecks k)
-          → ActionValid visible (if a then fillAction visible k else if b then timerAction k else if c then featureAction k else sendTable)
-      go true b c rows = fill-valid rows
-      go false true c rows = timer-valid rows
-      go false false true rows = feature-valid rows
-      go false false false rows = tt
+      go : (a b c e : Bool)
+          → AllPass
+          (if a then longChecks visible k
+          else if b
+          then fillChecks visible k
+          else if c
+          then timerChecks k
+          else if e
+          then featureChecks k
+          else tableChecks k)
+          → ActionValid visible
+          (if a then longAction k
+          else if b
+          then fillAction visible k
+          else if c
+          then timerAction k
+          else if e
+          then featureAction k
+          else sendTable)
+      go true b c e rows = ltb-true (longLba k) visible (rows .1 .0)
+      go false true c e rows = fill-valid rows
+      go false false true e rows = timer-valid rows
+      go false false false true rows = feature-valid rows
+      go false false false false rows = tt
 
 pub accepted-valid : (d : Device) (k : List ℕ) (a : Action) → 1 ≤ d .visible → length k ≡ sectorSize → Bytes k
     → judgeKey d k ≡ accepted a → ActionValid (d .visible) a

@@ -5,8 +5,9 @@ use Prim.Native.Nat.{ℕ, zero, suc, _+_, _-_, _≤_, _<_}
 use native.Mathlib.Omega.{arith}
 use mathlib.Core.List.{List, [], _∷_}
 use lib.Dec.{eqb, leb}
-use borrow.Author.Tests.{eq-eqb, ne-eqb, lt-leb, le-leb}
+use borrow.Author.Tests.{eq-eqb, ne-eqb, lt-ltb, le-ltb, lt-leb, le-leb}
 use Rattle.wire.specs.Choice.{if_then_else_, between, firstFailed}
+use Rattle.wire.specs.Numbers.{get}
 use Rattle.wire.proofs.ChoiceLaws.{between-true, between-within}
 use Rattle.model.specs.Device.{Device}
 use Rattle.model.specs.Key.{word, start, count, keyChecks, highestState, actionOf, Verdict, accepted, rejected, verdict, judgeKey}
@@ -23,6 +24,11 @@ Beyond low x high = between low x high ≡ false
 module _ (d : Device) (k : List ℕ) (unlocked : d .locked ≡ false) where
   abbrev isAccepted : Type 0
   isAccepted = judgeKey d k ≡ accepted (actionOf (d .visible) k)
+
+  -- W-202: "action 0001h, functions 1 (read) and 2 (write), LBA in words 2 to 5"
+  pub accepts-long : word k 0 ≡ 1 → Within 1 (word k 1) 2 → get 8 k 4 < d .visible → isAccepted
+  unfolding judgeKey keyChecks
+  accepts-long long f low = rw (unlocked, long, f, lt-ltb (get 8 k 4) (d .visible) low)
 
   pub accepts-fill : word k 0 ≡ 2 → Within 1 (word k 1) 2 → start k ≤ d .visible - 1 → start k + count k ≤ d .visible → isAccepted
   unfolding judgeKey keyChecks
@@ -65,10 +71,20 @@ module _ (d : Device) (k : List ℕ) where
   key-locked locked = rw locked
 
   module _ (unlocked : d .locked ≡ false) where
-    -- an action that is "not 2 to 5": 0010h
-    pub key-action : Beyond 2 (word k 0) 5 → judgeKey d k ≡ rejected 0x0010
+    -- an action that is "not 2 to 5": 0010h; W-202: "01's check on actions becomes 1 to 5"
+    pub key-action : Beyond 1 (word k 0) 5 → judgeKey d k ≡ rejected 0x0010
     unfolding judgeKey keyChecks
     key-action a = rw (unlocked, a)
+
+    -- W-202: "function 000Ah, LBA 0002h after it"
+    module _ (long : word k 0 ≡ 1) where
+      pub long-function : Beyond 1 (word k 1) 2 → judgeKey d k ≡ rejected 0x000A
+      unfolding judgeKey keyChecks
+      long-function f = rw (unlocked, long, f)
+
+      pub long-lba : Within 1 (word k 1) 2 → d .visible ≤ get 8 k 4 → judgeKey d k ≡ rejected 0x0002
+      unfolding judgeKey keyChecks
+      long-lba f h = rw (unlocked, long, f, le-ltb (get 8 k 4) (d .visible) h)
 
     -- "2 fill"
     module _ (fill : word k 0 ≡ 2) where

@@ -18,6 +18,7 @@ pub mod FillSector
 pub mod RecordedLaws
 pub mod TemperatureLaws
 pub mod OwnerLaws
+pub mod DiskRepair
 pub mod WorkLaws
 pub mod WholeFill
 pub mod ValidDevice
@@ -27,6 +28,7 @@ pub mod EntryLaws
 pub mod EntryFormat
 pub mod ImageLaws
 pub mod LimitLaws
+pub mod DiskSizes
 pub mod SaveLaws
 pub mod PowerOnLaws
 pub mod ImageSteps
@@ -34,3 +36,5 @@ pub mod SavedThenOn
 pub mod ValidStep
 pub mod ValidClauses
 pub mod HiddenLaws
+pub mod CheckedLaws
+pub mod LongLaws

@@ -4,12 +4,13 @@ use mathlib.Core.Bool.{true, false}
 use Prim.Native.Nat.{ℕ, _+_}
 use native.Mathlib.Omega.{arith}
 use mathlib.Core.List.{List, [], _∷_}
-use Rattle.model.specs.Sizes.{sectorSize, portCount, registersSize, mailboxSize, historySize, missing, powerOnTimer, bodySize, trailerSize, entrySize}
-use Rattle.model.specs.Device.{idle, running, none, table, fillData, Device, nextSector}
+use Rattle.model.specs.Sizes.{sectorSize, checkSize, longSectors, portCount, registersSize, dataSize, mailboxSize, historySize, missing, powerOnTimer, bodySize, trailerSize, entrySize}
+use Rattle.model.specs.Device.{idle, running, none, table, fillData, readLong, writeLong, Device, nextSector}
+use Rattle.model.specs.Disk.{LongSector}
 use Rattle.model.specs.Registers.{Direction, read, write, Registers, good, refused, refusedWith}
 use Rattle.model.specs.Status.{driveState}
 use Rattle.model.specs.Fill.{startFill, nothingPending}
-use Rattle.model.specs.Decide.{noWrite, oneSector, newFill, moves, sectorsOf}
+use Rattle.model.specs.Decide.{noWrite, oneSector, newFill, longTransfer, moves, sectorsOf}
 use Rattle.model.specs.Perform.{temperatureTable, spanOf}
 use Rattle.model.specs.Machine.{empty, request, reply, Machine}
 use Rattle.model.specs.Step.{powerOn, isEmpty, isRequest, isReply, step, firstAnswer}
@@ -17,9 +18,13 @@ use Rattle.model.specs.Valid.{Valid}
 use Rattle.model.proofs.StepLaws.{answer-is}
 use Rattle.model.proofs.FormatLaws.{TableAt, table-at}
 
--- "Ports 0 to 3. A mailbox is 528 bytes: 16 of registers, then a 512-byte sector."
-pub sizes : (portCount ≡ 4) × (mailboxSize ≡ 528) × (registersSize ≡ 16) × (sectorSize ≡ 512)
-sizes = (refl, refl, refl, refl)
+-- "Ports 0 to 3. A mailbox is 528 bytes: 16 of registers, then a 512-byte sector.": W-202: 1,040 bytes, with two sectors
+pub sizes : (portCount ≡ 4) × (mailboxSize ≡ 1040) × (registersSize ≡ 16) × (dataSize ≡ 1024) × (sectorSize ≡ 512)
+sizes = (refl, refl, refl, refl, refl)
+
+-- W-202: "two bytes a sector"; "A long transfer is two sectors"
+pub long-sizes : (checkSize ≡ 2) × (longSectors ≡ 2)
+long-sizes = (refl, refl)
 
 -- "Entries of 560 bytes: 544 of body, a 16-byte trailer at the end."
 pub entry-sizes : (entrySize ≡ 560) × (bodySize ≡ 544) × (trailerSize ≡ 16)
@@ -65,8 +70,8 @@ fill-started first end d = (refl, refl)
 
 -- ---- the sectors that are written: the first, and the first after them
 
-pub span-write : (lba : ℕ) (sector : List ℕ) → (spanOf (oneSector lba sector) .first ≡ lba) × (spanOf (oneSector lba sector) .end ≡ lba + 1)
-span-write lba sector = (refl, omega arith)
+pub span-write : (lba : ℕ) (x : LongSector) → (spanOf (oneSector lba x) .first ≡ lba) × (spanOf (oneSector lba x) .end ≡ lba + 1)
+span-write lba x = (refl, omega arith)
 
 pub span-fill : (first end : ℕ) (sector : List ℕ) → (spanOf (newFill first end sector) .first ≡ first) × (spanOf (newFill first end sector) .end ≡ end)
 span-fill first end sector = (refl, refl)
@@ -85,6 +90,12 @@ table-moves = (refl, refl, refl)
 
 pub fill-moves : (first end : ℕ) → (moves write (fillData first end) ≡ true) × (moves read (fillData first end) ≡ false) × (sectorsOf (fillData first end) ≡ 1)
 fill-moves first end = (refl, refl, refl)
+
+-- W-202: a key of function 1 leaves a transfer that is read, one of function 2 a transfer that is written, and each is two sectors
+pub long-moves : (lba : ℕ)
+    → (longTransfer read lba ≡ readLong lba) × (moves read (readLong lba) ≡ true) × (moves write (readLong lba) ≡ false) × (sectorsOf (readLong lba) ≡ 2)
+    × (longTransfer write lba ≡ writeLong lba) × (moves write (writeLong lba) ≡ true) × (moves read (writeLong lba) ≡ false) × (sectorsOf (writeLong lba) ≡ 2)
+long-moves lba = (refl, refl, refl, refl, refl, refl, refl, refl)
 
 pub none-moves : (d : Direction) → moves d none ≡ false
 none-moves d = refl

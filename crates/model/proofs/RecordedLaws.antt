@@ -8,11 +8,11 @@ use Rattle.wire.proofs.PartsLaws.{get-part}
 use Rattle.model.specs.Sizes.{portCount, registersSize, sectorSize}
 use Rattle.model.specs.Device.{Fill, idle, running, Device}
 use Rattle.model.specs.Registers.{keySector, dataOf, requestOf}
-use Rattle.model.specs.Key.{word, FeatureName, writeCache, reordering, logInterval, fillPattern, fillSector, setTimer, returnTimer, setFeature, returnState, returnOption, sendTable, Verdict, accepted, rejected}
+use Rattle.model.specs.Key.{word, FeatureName, writeCache, reordering, logInterval, accessLong, fillPattern, fillSector, setTimer, returnTimer, setFeature, returnState, returnOption, sendTable, Verdict, accepted, rejected}
 use Rattle.model.specs.Fill.{stopFill, interrupt}
 use Rattle.model.specs.Decide.{Serving}
 use Rattle.model.specs.Machine.{request, Machine}
-use Rattle.model.proofs.RequestLaws.{serveOn, keyJudged, serves-key-refused, serves-pattern, serves-fill-sector, serves-send-table, serves-set-timer, serves-return-timer, serves-set-feature, serves-return-state, serves-return-option}
+use Rattle.model.proofs.RequestLaws.{serveOn, keyJudged, serves-key-refused, serves-pattern, serves-fill-sector, serves-send-table, serves-access-long, serves-set-timer, serves-return-timer, serves-set-feature, serves-return-state, serves-return-option}
 
 -- the device's action and function
 pub record Recorded (d : Device) (action function : ℕ) : Type 0 where
@@ -42,6 +42,7 @@ module _ (s : Serving) (M : Machine) (m : List ℕ) (port : s .port < portCount)
 
       go : (v : Verdict) → keyJudged s M m port held ≡ v → Recorded (serveOn s M .state .device) (get 2 m 16) (get 2 m 18)
       go (rejected code) j = from _ (serves-key-refused s M m port held code e j .deviceAfter) refl refl
+      go (accepted (accessLong dir lba)) j = from _ (serves-access-long s M m port held dir lba e j .deviceAfter) refl refl
       go (accepted (fillPattern first end sector)) j = from _ (serves-pattern s M m port held first end sector e j .deviceAfter) refl refl
       go (accepted (fillSector first end)) j = from _ (serves-fill-sector s M m port held first end e j .deviceAfter) refl refl
       go (accepted (setTimer t n)) j = from _ (serves-set-timer s M m port held t n e j .deviceAfter) refl refl

@@ -1,14 +1,15 @@
 -- The answer table of document 01, row by row: a step that passes the rows above and fails this one has this answer.
 use mathlib.Core.Path.{_≡_, _∙_}
-use mathlib.Core.Bool.{true, false}
-use Prim.Native.Nat.{ℕ, _/_, _≤_, _<_}
+use mathlib.Core.Bool.{true, false, and-false}
+use Prim.Native.Nat.{ℕ, _*_, _/_, _≤_, _<_}
 use native.Mathlib.Omega.{arith}
 use mathlib.Core.List.{List}
 use lib.ListN.{length}
 use borrow.Author.Tests.{eq-eqb, ne-eqb, lt-ltb, le-ltb, lt-leb, le-leb}
 use Rattle.wire.specs.Choice.{firstFailed}
 use Rattle.model.specs.Sizes.{portCount, mailboxSize}
-use Rattle.model.specs.Image.{readable, sameDisk, hasRoom, wholeSectors, powerOnChecks}
+use Rattle.model.specs.Image.{readable, sameDisk, hasRoom, wholeSectors, wellSized, powerOnChecks}
+use Rattle.model.specs.Disk.{Disk}
 use Rattle.model.specs.Machine.{Machine}
 use Rattle.model.specs.Step.{lock, unlock, setVisible, sample, Step, take, serve, give, work, owner, save, isEmpty, isRequest, isReply, step}
 use Rattle.model.proofs.StepLaws.{answer-is}
@@ -79,21 +80,26 @@ module _ (image : List ℕ) (used : ℕ) (M : Machine) where
     save-full r d f = answer-is (save image used) M ∙ rw (le-leb used (length image) fits, r, d, f)
 
 -- a first power-on, on any disk
-module _ (disk image : List ℕ) (used : ℕ) where
-  pub power-on-disk : wholeSectors (length disk) ≡ false → firstFailed (powerOnChecks disk image used) ≡ 2
+module _ (disk : Disk) (image : List ℕ) (used : ℕ) where
+  pub power-on-disk : wholeSectors (length (disk .sectors)) ≡ false → firstFailed (powerOnChecks disk image used) ≡ 2
   power-on-disk w = rw w
 
-  pub power-on-length : wholeSectors (length disk) ≡ true → length image < used → firstFailed (powerOnChecks disk image used) ≡ 2
+  -- "a check area of wrong length is answer 2"
+  pub power-on-check-area : (length (disk .checkArea) ≡ 2 * (length (disk .sectors) / 512) → ⊥) → firstFailed (powerOnChecks disk image used) ≡ 2
+  power-on-check-area ne =
+      rw (ne-eqb (length (disk .checkArea)) (2 * (length (disk .sectors) / 512)) ne, and-false (wholeSectors (length (disk .sectors))))
+
+  pub power-on-length : wellSized disk ≡ true → length image < used → firstFailed (powerOnChecks disk image used) ≡ 2
   power-on-length w h = rw (w, lt-leb used (length image) h)
 
-  module _ (whole : wholeSectors (length disk) ≡ true) (fits : used ≤ length image) where
+  module _ (whole : wellSized disk ≡ true) (fits : used ≤ length image) where
     pub power-on-unreadable : readable image used ≡ false → firstFailed (powerOnChecks disk image used) ≡ 6
     power-on-unreadable r = rw (whole, le-leb used (length image) fits, r)
 
-    pub power-on-other : readable image used ≡ true → sameDisk (length disk / 512) image used ≡ false → firstFailed (powerOnChecks disk image used) ≡ 7
+    pub power-on-other : readable image used ≡ true → sameDisk (length (disk .sectors) / 512) image used ≡ false → firstFailed (powerOnChecks disk image used) ≡ 7
     power-on-other r d = rw (whole, le-leb used (length image) fits, r, d)
 
   -- "Power-on from length 0" is never refused for its image
-  pub power-on-empty : wholeSectors (length disk) ≡ true → firstFailed (powerOnChecks disk image 0) ≡ 0
+  pub power-on-empty : wellSized disk ≡ true → firstFailed (powerOnChecks disk image 0) ≡ 0
   unfolding readable
   power-on-empty whole = rw (whole, le-leb 0 (length image) (omega arith))

@@ -1,26 +1,28 @@
 -- Condition 2 for requests: for each kind of request, its reply, and the device and the disk afterwards.
-use mathlib.Core.Path.{_≡_, refl, ap, _∙_}
+use mathlib.Core.Path.{_≡_, refl, ap, subst, _∙_}
 use mathlib.Core.Bool.{Bool, true, false}
 use Prim.Native.Nat.{ℕ, suc, _*_, _≤_, _<_}
 use native.Mathlib.Omega.{arith}
-use mathlib.Core.List.{List, []}
+use mathlib.Core.List.{List, [], _++_}
 use lib.ListN.{getD, set}
 use lib.Seq.{sets}
 use lib.Dec.{eqb}
-use borrow.Author.Tests.{ne-eqb, lt-ltb, le-ltb}
+use borrow.Author.Tests.{eq-eqb, ne-eqb, lt-ltb, le-ltb}
 use Rattle.wire.specs.Choice.{if_then_else_, bit, firstFailed}
+use Rattle.wire.specs.Numbers.{le, get, put}
 use Rattle.wire.specs.Parts.{part}
+use Rattle.sector_check.specs.Check.{checkOf}
 use Rattle.wire.proofs.ChoiceLaws.{pass-all}
-use Rattle.model.specs.Sizes.{sectorSize, portCount, done}
-use Rattle.model.specs.Device.{Fill, idle, running, Transfer, none, table, fillData, Device}
+use Rattle.model.specs.Sizes.{portCount, done}
+use Rattle.model.specs.Device.{Fill, idle, running, Transfer, none, table, fillData, readLong, writeLong, Device}
 use Rattle.model.specs.Update.{withFill, withSettings, withCode, withKey, withPending, withInitialized, withCommand}
-use Rattle.model.specs.Registers.{Direction, read, write, Request, statusRead, keySector, dataTransfer, sectorAccess, other, dataOf, requestOf, good, refused, refusedWith, replyBytes}
-use Rattle.model.specs.Key.{word, FeatureName, Action, fillPattern, fillSector, setTimer, returnTimer, setFeature, returnState, returnOption, sendTable, Verdict, accepted, rejected, judgeKey}
+use Rattle.model.specs.Registers.{Direction, read, write, Request, statusRead, keySector, dataTransfer, sectorAccess, other, dataOf, longDataOf, requestOf, Registers, good, refused, refusedWith, replyBytes}
+use Rattle.model.specs.Key.{word, FeatureName, Action, accessLong, fillPattern, fillSector, setTimer, returnTimer, setFeature, returnState, returnOption, sendTable, Verdict, accepted, rejected, judgeKey}
 use Rattle.model.specs.Status.{statusSector}
-use Rattle.model.specs.Disk.{Disk}
+use Rattle.model.specs.Disk.{Disk, LongSector, checked, sectorAt}
 use Rattle.model.specs.Fill.{nothingPending, stopFill, interrupt, writeSector}
-use Rattle.model.specs.Decide.{Serving, oneSector, newFill, status, temperatures, diskSector, nothing, writing, sending, Decision, decision, timer, withTimer, feature, withFeature, afterFeature, carryOut, decideVerdict, decideKey, moves, sectorsOf, dataChecks, decideData, sectorChecks, decideSector, decideRequest, decide}
-use Rattle.model.specs.Perform.{temperatureTable, volumeAfter, replyOf}
+use Rattle.model.specs.Decide.{Serving, oneSector, newFill, status, temperatures, diskSector, storedSector, nothing, writing, sending, Decision, decision, timer, withTimer, feature, withFeature, afterFeature, longTransfer, carryOut, decideVerdict, decideKey, moves, sectorsOf, dataChecks, decideData, sectorChecks, decideSector, decideRequest, decide}
+use Rattle.model.specs.Perform.{temperatureTable, readReply, volumeAfter, replyOf}
 use Rattle.model.specs.Machine.{Port, request, reply, Machine, heldBytes}
 use Rattle.model.specs.Step.{serve, Outcome, checks, answerOnly, served, serveDecided, step}
 use Rattle.model.proofs.StepLaws.{step-done, port-same, port-other}
@@ -35,6 +37,13 @@ pub record Serves (s : Serving) (M : Machine) (answer : List ℕ) (d : Device) (
   pub others : (q : ℕ) → (q ≡ s .port → ⊥) → serveOn s M .state .ports q ≡ M .ports q
   pub deviceAfter : serveOn s M .state .device ≡ d
   pub diskAfter : serveOn s M .state .disk ≡ disk
+
+-- what a read replies, by the stored check number and that of the content
+pub read-sound : (r : Registers) (x : LongSector) → x .check ≡ checkOf (x .content) → readReply r x ≡ replyBytes r (x .content)
+read-sound r x same = rw (eq-eqb (x .check) (checkOf (x .content)) same)
+
+pub read-damaged : (r : Registers) (x : LongSector) → (x .check ≡ checkOf (x .content) → ⊥) → readReply r x ≡ replyBytes (refused 0x40) []
+read-damaged r x differs = rw (ne-eqb (x .check) (checkOf (x .content)) differs)
 
 -- stopping a fill changes only the state of the last command
 stop-kept : (f : Fill) (ts : List Transfer) (d : Device) → withPending ts (stopFill f d) ≡ withCommand (withPending ts (stopFill f d) .command) d
@@ -124,6 +133,12 @@ module _ (s : Serving) (M : Machine) (m : List ℕ) (port : s .port < portCount)
   unfolding carryOut interrupt
   serves-send-table e j = serves (decided-accepted e _ j)
 
+  -- W-202: "either key's reply has 2 in Sector Count and LBA Mid"
+  pub serves-access-long : (dir : Direction) (lba : ℕ) → requestOf m ≡ keySector → keyJudged ≡ accepted (accessLong dir lba)
+      → Serves s M (replyBytes (good 2 2) []) (withPending (set nothingPending p (longTransfer dir lba)) keyed) (M .disk)
+  unfolding carryOut interrupt
+  serves-access-long dir lba e j = serves (decided-accepted e _ j)
+
   pub serves-set-timer : (t : Direction) (n : ℕ) → requestOf m ≡ keySector → keyJudged ≡ accepted (setTimer t n)
       → Serves s M (replyBytes (good 0 0) []) (withSettings (withTimer t n (keyed .settings)) keyed) (M .disk)
   unfolding carryOut
@@ -158,7 +173,7 @@ module _ (s : Serving) (M : Machine) (m : List ℕ) (port : s .port < portCount)
   dataCode dir count = firstFailed (dataChecks (M .device .locked) dir count (getD (M .device .command .pending) p none))
 
   pub decided-data : (dir : Direction) (count : ℕ) → requestOf m ≡ dataTransfer dir count
-      → decide s m (M .device) ≡ decideData dir count (getD (M .device .command .pending) p none) (dataOf m) (interrupt (M .device))
+      → decide s m (M .device) ≡ decideData dir count (getD (M .device .command .pending) p none) (longDataOf m) (interrupt (M .device))
   decided-data dir count e = decided (dataTransfer dir count) e
 
   -- "Each becomes the stored code."
@@ -178,15 +193,25 @@ module _ (s : Serving) (M : Machine) (m : List ℕ) (port : s .port < portCount)
       → dataCode dir count ≡ 0x000B
   data-not-pending dir count unlocked pends = rw (unlocked, pends)
 
-  -- ".. count not 1 0003h."
-  pub data-count : (dir : Direction) (count : ℕ) → M .device .locked ≡ false → moves dir (getD (M .device .command .pending) p none) ≡ true → (count ≡ 1 → ⊥)
-      → dataCode dir count ≡ 0x0003
-  data-count dir count unlocked pends ne = rw (unlocked, pends) (go (getD (M .device .command .pending) p none) pends)
+  -- ".. count not 1 0003h.", W-202: "E1h wants count 2 for it and 1 for the others"
+  pub data-count : (dir : Direction) (count : ℕ) → M .device .locked ≡ false → moves dir (getD (M .device .command .pending) p none) ≡ true
+      → ((lba : ℕ) → getD (M .device .command .pending) p none ≡ longTransfer dir lba → ⊥) → (count ≡ 1 → ⊥) → dataCode dir count ≡ 0x0003
+  data-count dir count unlocked pends short ne = rw (unlocked, pends) (go dir (getD (M .device .command .pending) p none) pends short)
     where
-      go : (t : Transfer) → moves dir t ≡ true → _≡_ {A = ℕ} (if eqb count (sectorsOf t) then 0 else 0x0003) 0x0003
-      go none e = absurd (no-transfer dir e)
-      go table e = rw (ne-eqb count 1 ne)
-      go (fillData first end) e = rw (ne-eqb count 1 ne)
+      go : (d : Direction) (t : Transfer) → moves d t ≡ true → ((lba : ℕ) → t ≡ longTransfer d lba → ⊥)
+          → _≡_ {A = ℕ} (if eqb count (sectorsOf t) then 0 else 0x0003) 0x0003
+      go d none e k = absurd (no-transfer d e)
+      go d table e k = rw (ne-eqb count 1 ne)
+      go d (fillData first end) e k = rw (ne-eqb count 1 ne)
+      go read (readLong lba) e k = absurd (k lba refl)
+      go write (readLong lba) e k = absurd (let z : _≡_ {A = ℕ} 0 1 = cc in omega arith)
+      go read (writeLong lba) e k = absurd (let z : _≡_ {A = ℕ} 0 1 = cc in omega arith)
+      go write (writeLong lba) e k = absurd (k lba refl)
+
+  pub data-count-long : (dir : Direction) (count lba : ℕ) → M .device .locked ≡ false → getD (M .device .command .pending) p none ≡ longTransfer dir lba
+      → (count ≡ 2 → ⊥) → dataCode dir count ≡ 0x0003
+  data-count-long read count lba unlocked pends ne = rw (unlocked, pends, ne-eqb count 2 ne)
+  data-count-long write count lba unlocked pends ne = rw (unlocked, pends, ne-eqb count 2 ne)
 
   -- "A table is sent as it stands at the E1h read."
   pub serves-table : requestOf m ≡ dataTransfer read 1 → M .device .locked ≡ false → getD (M .device .command .pending) p none ≡ table
@@ -205,6 +230,26 @@ module _ (s : Serving) (M : Machine) (m : List ℕ) (port : s .port < portCount)
   serves-fill-data first end e unlocked pends =
       serves {c = decision (withCode 0x0000 (interrupt (M .device))) (good 0 0) (writing (newFill first end (dataOf m)))}
       (decided-data write 1 e ∙ rw (pends, interrupt-kept (M .device), unlocked))
+
+  -- W-202: "Read Long sends the two check bytes as stored", also if they are not the content's: there is no Error 40h
+  pub serves-read-long : (lba : ℕ) → requestOf m ≡ dataTransfer read 2 → M .device .locked ≡ false
+      → getD (M .device .command .pending) p none ≡ readLong lba
+      → Serves s M (replyBytes (good 0 0) (part (M .disk .sectors) (512 * lba) 512 ++ le 2 (get 2 (M .disk .checkArea) (2 * lba))))
+      (withCode 0x0000 (interrupt (M .device))) (M .disk)
+  unfolding decideData
+  serves-read-long lba e unlocked pends =
+      serves {c = decision (withCode 0x0000 (interrupt (M .device))) (good 0 0) (sending (storedSector lba))}
+      (decided-data read 2 e ∙ rw (pends, interrupt-kept (M .device), unlocked))
+
+  -- "Write Long stores what it is sent, without judging it"; "The Segment Initialized flag is cleared by any sector written"
+  pub serves-write-long : (lba : ℕ) → requestOf m ≡ dataTransfer write 2 → M .device .locked ≡ false
+      → getD (M .device .command .pending) p none ≡ writeLong lba
+      → Serves s M (replyBytes (good 0 0) []) (withInitialized false (withCode 0x0000 (interrupt (M .device))))
+      (record { sectors = sets (M .disk .sectors) (512 * lba) (part m 16 512); checkArea = put 2 (M .disk .checkArea) (2 * lba) (get 2 m 528) })
+  unfolding decideData writeSector
+  serves-write-long lba e unlocked pends =
+      serves {c = decision (withCode 0x0000 (interrupt (M .device))) (good 0 0) (writing (oneSector lba (longDataOf m)))}
+      (decided-data write 2 e ∙ rw (pends, interrupt-kept (M .device), unlocked))
 
   -- Another port, or the other direction: 51h, 04h, 000Bh and a zero sector, and afterwards nothing is pending.
   pub serves-not-pending : (dir : Direction) (count : ℕ) → requestOf m ≡ dataTransfer dir count → M .device .locked ≡ false
@@ -235,20 +280,35 @@ module _ (s : Serving) (M : Machine) (m : List ℕ) (port : s .port < portCount)
   pub sector-range : (lba : ℕ) → M .device .locked ≡ false → M .device .visible ≤ lba → sectorError 1 lba ≡ 0x10
   sector-range lba unlocked h = rw (unlocked, le-ltb lba (M .device .visible) h)
 
-  pub serves-read : (lba : ℕ) → requestOf m ≡ sectorAccess read 1 lba → M .device .locked ≡ false → lba < M .device .visible
-      → Serves s M (replyBytes (good 0 0) (part (M .disk .sectors) (sectorSize * lba) sectorSize)) (interrupt (M .device)) (M .disk)
-  unfolding decideSector
-  serves-read lba e unlocked low =
-      serves {c = decision (interrupt (M .device)) (good 0 0) (sending (diskSector lba))}
-      (decided-sector read 1 lba e ∙ rw (interrupt-kept (M .device), unlocked, lt-ltb lba (M .device .visible) low))
+  module _ (lba : ℕ) (unlocked : M .device .locked ≡ false) (low : lba < M .device .visible) where
+    -- a sector that is read, by its content and its check bytes
+    abbrev content : List ℕ
+    content = part (M .disk .sectors) (512 * lba) 512
 
-  -- the sector is written at its place, every other byte is unchanged, and the flag is cleared
-  pub serves-write : (lba : ℕ) → requestOf m ≡ sectorAccess write 1 lba → M .device .locked ≡ false → lba < M .device .visible
-      → Serves s M (replyBytes (good 0 0) []) (withInitialized false (interrupt (M .device))) (record { sectors = sets (M .disk .sectors) (sectorSize * lba) (dataOf m) })
-  unfolding decideSector writeSector
-  serves-write lba e unlocked low =
-      serves {c = decision (interrupt (M .device)) (good 0 0) (writing (oneSector lba (dataOf m)))}
-      (decided-sector write 1 lba e ∙ rw (interrupt-kept (M .device), unlocked, lt-ltb lba (M .device .visible) low))
+    abbrev stored : ℕ
+    stored = get 2 (M .disk .checkArea) (2 * lba)
+
+    read-decided : requestOf m ≡ sectorAccess read 1 lba → decide s m (M .device) ≡ decision (interrupt (M .device)) (good 0 0) (sending (diskSector lba))
+    unfolding decideSector
+    read-decided e = decided-sector read 1 lba e ∙ rw (interrupt-kept (M .device), unlocked, lt-ltb lba (M .device .visible) low)
+
+    pub serves-read : requestOf m ≡ sectorAccess read 1 lba → stored ≡ checkOf content → Serves s M (replyBytes (good 0 0) content) (interrupt (M .device)) (M .disk)
+    serves-read e same =
+        subst (λ (l : List ℕ). Serves s M l (interrupt (M .device)) (M .disk)) (read-sound (good 0 0) (sectorAt lba (M .disk)) same) (serves (read-decided e))
+
+    -- "a read of a sector whose check differs has Error 40h, after the range check"
+    pub serves-damaged : requestOf m ≡ sectorAccess read 1 lba → (stored ≡ checkOf content → ⊥) → Serves s M (replyBytes (refused 0x40) []) (interrupt (M .device)) (M .disk)
+    serves-damaged e differs =
+        subst (λ (l : List ℕ). Serves s M l (interrupt (M .device)) (M .disk)) (read-damaged (good 0 0) (sectorAt lba (M .disk)) differs) (serves (read-decided e))
+
+    -- the sector is written at its place with its check bytes, every other byte is unchanged, and the flag is cleared
+    pub serves-write : requestOf m ≡ sectorAccess write 1 lba
+        → Serves s M (replyBytes (good 0 0) []) (withInitialized false (interrupt (M .device)))
+        (record { sectors = sets (M .disk .sectors) (512 * lba) (dataOf m); checkArea = put 2 (M .disk .checkArea) (2 * lba) (checkOf (dataOf m)) })
+    unfolding decideSector writeSector
+    serves-write e =
+        serves {c = decision (interrupt (M .device)) (good 0 0) (writing (oneSector lba (checked (dataOf m))))}
+        (decided-sector write 1 lba e ∙ rw (interrupt-kept (M .device), unlocked, lt-ltb lba (M .device .visible) low))
 
   pub serves-sector-refused : (dir : Direction) (count lba error : ℕ) → requestOf m ≡ sectorAccess dir count lba
       → sectorError count lba ≡ suc error

@@ -16,10 +16,12 @@ use Rattle.wire.proofs.NumbersLaws.{getD-sets-before, getD-sets-after}
 use Rattle.wire.proofs.PartsLaws.{part-before, part-same}
 use Rattle.wire.proofs.BytesLaws.{bytes-sets, bytes-append}
 use Rattle.model.specs.Sizes.{sectorSize, nativeLimit, bodySize, trailerSize, entrySize, entryLimit, imageFull}
+use Rattle.model.specs.Disk.{Disk, HasSize}
 use Rattle.model.specs.Device.{Device}
 use Rattle.model.specs.Valid.{Valid}
 use Rattle.model.specs.Image.{Saved, savedFrom, bodyBytes, savedAt, inRange, trailerBytes, bodyAt, trailerPlace, entryHolds, entries, newestIn, readable, sameDisk, saveChecks, savedImage, powerOnChecks, restored}
 use Rattle.model.specs.ImageForm.{SavedFits, AreAlike, EntryForm}
+use Rattle.model.proofs.DiskSizes.{native-size, well-sized}
 use Rattle.model.proofs.EntryLaws.{bytes-body, bytes-trailer, length-body, length-trailer, Ranged, parts-range, range-fits, alike-self}
 use Rattle.model.proofs.ImageLaws.{holds-alike, form-saved, form-holds, Readable, readable-parts, parts-readable}
 
@@ -192,15 +194,13 @@ module _ (d : Device) (image : List ℕ) (used : ℕ) (valid : Valid d) (passed 
   restored-saved = rw (ne-eqb (used + entrySize) 0 (omega arith)) newest-saved
 
   -- THEOREM: after a save, power-on with the new image passes its checks (and restores what was saved, by restored-saved).
-  pub power-on-after-save : (disk : List ℕ) → length disk ≡ sectorSize * d .native
+  pub power-on-after-save : (disk : Disk) → HasSize (d .native) disk
       → firstFailed (powerOnChecks disk (savedImage d image used) (used + entrySize)) ≡ 0
   power-on-after-save disk e =
       let sizes = valid .sizes in
-      let count : length disk / sectorSize ≡ d .native = omega arith in
+      let count = native-size (d .native) disk e in
       pass-all (powerOnChecks disk (savedImage d image used) (used + entrySize)) (
-        and-both (eqb (length disk % sectorSize) 0) (between 1 (length disk / sectorSize) nativeLimit)
-            (eq-eqb (length disk % sectorSize) 0 (omega arith))
-            (between-within 1 (length disk / sectorSize) nativeLimit (omega arith) (omega arith)),
+        well-sized (d .native) disk e (omega arith) (omega arith),
         (
           le-leb (used + entrySize) (length (savedImage d image used)) (rw (length-saved d image used) (accepted .room)),
           (readable-saved, (rw count same-disk-saved, tt)),

@@ -5,7 +5,7 @@ use native.Mathlib.Omega.{arith}
 use mathlib.Core.List.{List}
 use lib.ListN.{length}
 use Rattle.wire.specs.Choice.{firstFailed}
-use Rattle.model.specs.Sizes.{sectorSize, entrySize}
+use Rattle.model.specs.Sizes.{entrySize}
 use Rattle.model.specs.Image.{savedFrom, saveChecks, savedImage, powerOnChecks, restored}
 use Rattle.model.specs.Image.{powerOn as powerOnDevice}
 use Rattle.model.specs.Machine.{Machine}
@@ -13,11 +13,13 @@ use Rattle.model.specs.Step.{save, powerOn, Seen, Outcome, answeredImage
 use Rattle.model.specs.Valid.{MachineValid}
 use Rattle.model.proofs.StepLaws.{step-done, answer-is}
 use Rattle.model.proofs.SaveLaws.{power-on-after-save, restored-saved}
+use Rattle.model.specs.Disk.{HasSize}
+use Rattle.model.proofs.DiskSizes.{SameSize, native-size}
 use Rattle.model.proofs.PowerOnLaws.{KeptRules, kept-rules}
 use Rattle.model.proofs.ImageSteps.{power-on-leaves}
 
 -- N is a machine on the same disk as M: since the save the disk may have changed, except in size
-module _ (M N : Machine) (image : List ℕ) (used : ℕ) (ok : MachineValid M) (disk : length (N .disk .sectors) ≡ length (M .disk .sectors)) (saves : step (save image used) M .seen .answer ≡ 0) where
+module _ (M N : Machine) (image : List ℕ) (used : ℕ) (ok : MachineValid M) (disk : SameSize (N .disk) (M .disk)) (saves : step (save image used) M .seen .answer ≡ 0) where
   abbrev saved : Seen
   saved = step (save image used) M .seen
 
@@ -27,11 +29,11 @@ module _ (M N : Machine) (image : List ℕ) (used : ℕ) (ok : MachineValid M) (
   saved-is : saved ≡ answeredImage 0 (savedImage (M .device) image used) (used + entrySize)
   saved-is = ap (λ (o : Outcome Machine). o .seen) (step-done (save image used) M passed)
 
-  size : length (N .disk .sectors) ≡ sectorSize * M .device .native
-  size = disk ∙ ok .diskValid .size
+  size : HasSize (M .device .native) (N .disk)
+  size = (disk .0 ∙ ok .diskValid .sectorsValid .size, disk .1 ∙ ok .diskValid .checkAreaValid .size)
 
-  on-passed : firstFailed (powerOnChecks (N .disk .sectors) (saved .image) (saved .used)) ≡ 0
-  on-passed = rw saved-is (power-on-after-save (M .device) image used (ok .deviceValid) passed (N .disk .sectors) size)
+  on-passed : firstFailed (powerOnChecks (N .disk) (saved .image) (saved .used)) ≡ 0
+  on-passed = rw saved-is (power-on-after-save (M .device) image used (ok .deviceValid) passed (N .disk) size)
 
   pub power-on-answers : step (powerOn (saved .image) (saved .used)) N .seen .answer ≡ 0
   power-on-answers = answer-is (powerOn (saved .image) (saved .used)) N ∙ on-passed
@@ -41,10 +43,7 @@ module _ (M N : Machine) (image : List ℕ) (used : ℕ) (ok : MachineValid M) (
       power-on-leaves (saved .image) (saved .used) N power-on-answers .device
       ∙ rw saved-is
       (ap powerOnDevice
-      (ap (λ (n : ℕ). restored n (savedImage (M .device) image used) (used + entrySize)) native-is ∙ restored-saved (M .device) image used (ok .deviceValid) passed))
-    where
-      native-is : length (N .disk .sectors) / sectorSize ≡ M .device .native
-      native-is = rw size (omega arith)
+      (ap (λ (n : ℕ). restored n (savedImage (M .device) image used) (used + entrySize)) (native-size (M .device .native) (N .disk) size) ∙ restored-saved (M .device) image used (ok .deviceValid) passed))
 
   -- THEOREM: "A saved image read back gives what was saved, as the power-on rules keep it"
   pub saved-read-back : KeptRules (savedFrom (M .device)) (step (powerOn (saved .image) (saved .used)) N .state .device)

@@ -15,7 +15,7 @@ use Rattle.model.specs.Image.{powerOn, restored}
 use Rattle.model.specs.Machine.{Machine}
 use Rattle.model.specs.Step.{take, serve, give, Outcome, step, trace, served, serveDecided, poweredOn, answerOnly, answeredMailbox}
 use Rattle.model.specs.Examples.{Example, evaluate, starred, keyMailbox, fillKey}
-use Rattle.model.specs.Sizes.{mailboxSize, sectorSize}
+use Rattle.model.specs.Sizes.{mailboxSize, sectorSize, checkSize}
 
 -- THEOREM: every starred example has the outcome that 01 states.
 pub starred-hold : map (λ (e : Example × List ℕ). evaluate (e .0)) starred ≡ map (λ (e : Example × List ℕ). e .1) starred
@@ -24,7 +24,7 @@ starred-hold = refl
 
 -- "Start 64, Count 0: 0002h", from the mailbox through take, serve and give to the mailbox of the reply
 pub end-to-end : map (λ (o : Outcome Machine). o .seen)
-    (trace step (take 0 (keyMailbox (fillKey 64 0)) ∷ serve (record { port = 0 }) ∷ give 0 (zeros mailboxSize) ∷ []) (poweredOn (record { sectors = zeros (sectorSize * 64) }) [] 0))
+    (trace step (take 0 (keyMailbox (fillKey 64 0)) ∷ serve (record { port = 0 }) ∷ give 0 (zeros mailboxSize) ∷ []) (poweredOn (record { sectors = zeros (sectorSize * 64); checkArea = zeros (checkSize * 64) }) [] 0))
     ≡ answeredMailbox 0 (keyMailbox (fillKey 64 0))
     ∷ answerOnly 0
     ∷ answeredMailbox 0 (form mailboxSize ((2, 1, 0x02) ∷ (12, 1, 0x51) ∷ (13, 1, 0x04) ∷ []))

@@ -11,7 +11,7 @@ use Rattle.wire.specs.Choice.{if_then_else_, Check, firstFailed, ifPassed}
 use Rattle.wire.proofs.ChoiceLaws.{Numbered, attempt-refused, attempt-done, pass-all}
 use Rattle.model.specs.Sizes.{portCount, mailboxSize, done, refusalOrder}
 use Rattle.model.specs.Machine.{Port, empty, request, reply, Machine, whileRunning, withPort}
-use Rattle.model.specs.Step.{Step, take, serve, give, work, owner, save, powerOn, Seen, Outcome, checks, unchanged, seenDone, answeredMailbox, does, guarded, step, trace}
+use Rattle.model.specs.Step.{Step, take, serve, give, work, owner, repair, save, powerOn, Seen, Outcome, checks, unchanged, seenDone, answeredMailbox, does, guarded, step, trace}
 
 -- the trace of a list is the first step's outcome, and the trace of the rest from the state that it leaves
 pub trace-first : {S : Type 0} (f : Step → S → Outcome S) (x : Step) (xs : List Step) (s : S)
@@ -23,7 +23,7 @@ pub step-done : (x : Step) (M : Machine) → firstFailed (checks x M) ≡ 0 → 
 unfolding step
 step-done x M e = attempt-done (guarded x M) 0 (sym e) refl
 
--- "A nonzero answer changes nothing anywhere": the machine, the mailbox and the image are unchanged, and the count is 0
+-- "A nonzero answer changes nothing anywhere": the machine, the mailbox and the image are unchanged, and count and report are 0
 pub step-refused : (x : Step) (M : Machine) (n : ℕ) → firstFailed (checks x M) ≡ suc n → step x M ≡ record { state = M; seen = unchanged x (suc n) }
 unfolding step
 step-refused x M n e = attempt-refused (guarded x M) (suc n) (sym e) (λ z. omega (arith, z))
@@ -35,6 +35,7 @@ seen-done (serve s) M = refl
 seen-done (give p m) M = refl
 seen-done (work n) M = refl
 seen-done (owner x) M = refl
+seen-done (repair lba) M = refl
 seen-done (save image used) M = refl
 seen-done (powerOn image used) M = refl
 
@@ -44,6 +45,7 @@ unchanged-answer (serve s) n = refl
 unchanged-answer (give p m) n = refl
 unchanged-answer (work k) n = refl
 unchanged-answer (owner x) n = refl
+unchanged-answer (repair lba) n = refl
 unchanged-answer (save image used) n = refl
 unchanged-answer (powerOn image used) n = refl
 
@@ -77,6 +79,7 @@ order-kept (serve s) M = refl
 order-kept (give p m) M = refl
 order-kept (work n) M = refl
 order-kept (owner x) M = refl
+order-kept (repair lba) M = refl
 order-kept (save image used) M = refl
 order-kept (powerOn image used) M = refl
 
@@ -87,6 +90,7 @@ answers-numbered (serve s) M = (omega arith, omega arith, (omega arith, omega ar
 answers-numbered (give p m) M = (omega arith, omega arith, (omega arith, omega arith, (omega arith, omega arith, tt)))
 answers-numbered (work n) M = tt
 answers-numbered (owner x) M = (omega arith, omega arith, tt)
+answers-numbered (repair lba) M = (omega arith, omega arith, tt)
 answers-numbered (save image used) M = (omega arith, omega arith, (omega arith, omega arith, (omega arith, omega arith, (omega arith, omega arith, tt))))
 answers-numbered (powerOn image used) M = (omega arith, omega arith, (omega arith, omega arith, (omega arith, omega arith, (omega arith, omega arith, tt))))
 
@@ -107,7 +111,7 @@ take-keeps p m M h size e =
     rw (step-done (take p m) M (pass-all (checks (take p m) M) (eq-eqb (length m) mailboxSize size, (lt-ltb p portCount h, (rw e, tt)))))
     (port-same p (request m) (M .ports))
 
--- "Give .. writes all 528 reply bytes to the mailbox. Answered to empty"
+-- "Give .. writes all 528 reply bytes to the mailbox. Answered to empty": 1,040 since W-202
 pub give-delivers : (p : ℕ) (m r : List ℕ) (M : Machine) → p < portCount → length m ≡ mailboxSize → M .ports p ≡ reply r
     → (step (give p m) M .seen ≡ answeredMailbox done r) × (step (give p m) M .state .ports p ≡ empty)
 give-delivers p m r M h size e =
@@ -151,6 +155,7 @@ mailboxOf (serve s) = []
 mailboxOf (give p m) = m
 mailboxOf (work n) = []
 mailboxOf (owner x) = []
+mailboxOf (repair lba) = []
 mailboxOf (save image used) = []
 mailboxOf (powerOn image used) = []
 
@@ -160,36 +165,40 @@ imageOf (serve s) = ([], 0)
 imageOf (give p m) = ([], 0)
 imageOf (work n) = ([], 0)
 imageOf (owner x) = ([], 0)
+imageOf (repair lba) = ([], 0)
 imageOf (save image used) = (image, used)
 imageOf (powerOn image used) = (image, used)
 
--- no sector is counted, and the buffers are unchanged
+-- no sector is counted, nothing is reported, and the buffers are unchanged
 pub record Untouched (x : Step) (s : Seen) : Type 0 where
   pub count : s .count ≡ 0
+  pub report : s .report ≡ 0
   pub mailbox : s .mailbox ≡ mailboxOf x
   pub image : s .image ≡ imageOf x .0
   pub used : s .used ≡ imageOf x .1
 
 unchanged-untouched : (x : Step) (n : ℕ) → Untouched x (unchanged x n)
-unchanged-untouched (take p m) n = record { count = refl; mailbox = refl; image = refl; used = refl }
-unchanged-untouched (serve s) n = record { count = refl; mailbox = refl; image = refl; used = refl }
-unchanged-untouched (give p m) n = record { count = refl; mailbox = refl; image = refl; used = refl }
-unchanged-untouched (work k) n = record { count = refl; mailbox = refl; image = refl; used = refl }
-unchanged-untouched (owner x) n = record { count = refl; mailbox = refl; image = refl; used = refl }
-unchanged-untouched (save image used) n = record { count = refl; mailbox = refl; image = refl; used = refl }
-unchanged-untouched (powerOn image used) n = record { count = refl; mailbox = refl; image = refl; used = refl }
+unchanged-untouched (take p m) n = record { count = refl; report = refl; mailbox = refl; image = refl; used = refl }
+unchanged-untouched (serve s) n = record { count = refl; report = refl; mailbox = refl; image = refl; used = refl }
+unchanged-untouched (give p m) n = record { count = refl; report = refl; mailbox = refl; image = refl; used = refl }
+unchanged-untouched (work k) n = record { count = refl; report = refl; mailbox = refl; image = refl; used = refl }
+unchanged-untouched (owner x) n = record { count = refl; report = refl; mailbox = refl; image = refl; used = refl }
+unchanged-untouched (repair lba) n = record { count = refl; report = refl; mailbox = refl; image = refl; used = refl }
+unchanged-untouched (save image used) n = record { count = refl; report = refl; mailbox = refl; image = refl; used = refl }
+unchanged-untouched (powerOn image used) n = record { count = refl; report = refl; mailbox = refl; image = refl; used = refl }
 
 -- "A nonzero answer changes nothing anywhere; work then reports 0."
 pub refused-untouched : (x : Step) (M : Machine) (n : ℕ) → step x M .seen .answer ≡ suc n → (step x M .state ≡ M) × Untouched x (step x M .seen)
 refused-untouched x M n e = rw (step-refused x M n (sym (answer-is x M) ∙ e)) (refl, unchanged-untouched x (suc n))
 
--- only give, work and save show more than their answer
+-- only give, work, repair and save show more than their answer
 abbrev pub Silent : Step → Type 0
 Silent (take p m) = Unit {0}
 Silent (serve s) = Unit {0}
 Silent (give p m) = ⊥
 Silent (work n) = ⊥
 Silent (owner x) = Unit {0}
+Silent (repair lba) = ⊥
 Silent (save image used) = ⊥
 Silent (powerOn image used) = Unit {0}
 
@@ -199,6 +208,7 @@ silent-seen (serve x) M s = refl
 silent-seen (give p m) M s = absurd s
 silent-seen (work n) M s = absurd s
 silent-seen (owner x) M s = refl
+silent-seen (repair lba) M s = absurd s
 silent-seen (save image used) M s = absurd s
 silent-seen (powerOn image used) M s = refl
 

@@ -10,7 +10,7 @@ use Rattle.model.specs.Sizes.{portCount}
 use Rattle.model.specs.Decide.{Serving, Decision, decide}
 use Rattle.model.specs.Perform.{volumeAfter, replyOf}
 use Rattle.model.specs.Machine.{Port, empty, request, Machine, withPort}
-use Rattle.model.specs.Step.{Step, take, serve, give, work, owner, save, powerOn, isEmpty, isReply, Outcome, checks, does, served, serveDecided, worked, step}
+use Rattle.model.specs.Step.{Step, take, serve, give, work, owner, repair, save, powerOn, isEmpty, isReply, Outcome, checks, does, served, serveDecided, worked, repaired, step}
 use Rattle.model.specs.Valid.{Each}
 use Rattle.model.proofs.StepLaws.{step-done, step-refused, answer-is, answers-numbered, port-other}
 use Rattle.model.proofs.RequestLaws.{Serves, serves}
@@ -22,6 +22,7 @@ LeavesRequest f p (serve x) s = x .port ≡ p → ⊥
 LeavesRequest f p (give q m) s = Unit {0}
 LeavesRequest f p (work n) s = Unit {0}
 LeavesRequest f p (owner x) s = Unit {0}
+LeavesRequest f p (repair lba) s = Unit {0}
 LeavesRequest f p (save image used) s = Unit {0}
 LeavesRequest f p (powerOn image used) s = f (powerOn image used) s .seen .answer ≡ 0 → ⊥
 
@@ -48,7 +49,7 @@ module _ (p : ℕ) (m : List ℕ) (M : Machine) (held : M .ports p ≡ request m
       omega arith
 
   does-leaves : (x : Step) → LeavesRequest step p x M → firstFailed (checks x M) ≡ 0 → does x M .ports p ≡ request m
-  unfolding served serveDecided worked
+  unfolding served serveDecided worked repaired
   does-leaves (take q n) l e =
       let pass = all-pass 8 (checks (take q n) M) (answers-numbered (take q n) M) e in
       other-port p q (request n) m M held (done-elsewhere q isEmpty (pass .1 .1 .0) refl)
@@ -58,6 +59,7 @@ module _ (p : ℕ) (m : List ℕ) (M : Machine) (held : M .ports p ≡ request m
       other-port p q empty m M held (done-elsewhere q isReply (pass .1 .1 .0) refl)
   does-leaves (work n) l e = held
   does-leaves (owner x) l e = held
+  does-leaves (repair lba) l e = held
   does-leaves (save image used) l e = held
   does-leaves (powerOn image used) l e = absurd (l (answer-is (powerOn image used) M ∙ e))
 
@@ -88,6 +90,7 @@ OnOtherPort p (serve s) = ⊥
 OnOtherPort p (give q m) = q ≡ p → ⊥
 OnOtherPort p (work n) = ⊥
 OnOtherPort p (owner x) = ⊥
+OnOtherPort p (repair lba) = ⊥
 OnOtherPort p (save image used) = ⊥
 OnOtherPort p (powerOn image used) = ⊥
 
@@ -106,6 +109,7 @@ step-on-other p x M o = go (firstFailed (checks x M)) refl
     changed (give q m) ne = record { device = refl; disk = refl; port = port-other q p empty (M .ports) (λ e. ne (sym e)) }
     changed (work n) o = absurd o
     changed (owner x) o = absurd o
+    changed (repair lba) o = absurd o
     changed (save image used) o = absurd o
     changed (powerOn image used) o = absurd o
 

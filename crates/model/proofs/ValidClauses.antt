@@ -1,13 +1,16 @@
 -- A device is valid exactly if it meets document 01's clauses, in its words and numbers ("A record is sound when").
 use mathlib.Core.Path.{_≡_, refl}
 use mathlib.Core.Logic.{_⊎_}
-use Prim.Native.Nat.{ℕ, zero, suc, _^_, _≤_, _<_}
+use Prim.Native.Nat.{ℕ, suc, _^_, _≤_, _<_}
 use native.Mathlib.Omega.{arith}
 use mathlib.Core.List.{List, [], _∷_}
 use lib.ListN.{length, getD}
 use Rattle.wire.specs.Bytes.{Bytes}
-use Rattle.model.specs.Device.{Fill, idle, running, Transfer, none, table, fillData, Device}
-use Rattle.model.specs.Valid.{FillValid, PendingValid, pendingCount, pendingLimit, CodeValid, Valid}
+use Rattle.model.specs.Device.{Fill, idle, running, Transfer, none, table, fillData, readLong, writeLong, Device}
+use Rattle.model.specs.Registers.{Direction, read, write}
+use Rattle.model.specs.Decide.{longTransfer}
+use Rattle.model.specs.Valid.{FillValid, TransferValid, PendingValid, pendingCount, pendingLimit, CodeValid, Valid}
+use Rattle.model.proofs.ValidRequest.{pending-for, empty-rest}
 
 pub record Clauses (d : Device) : Type 0 where
   -- "1 ≤ V ≤ N ≤ 65,536"
@@ -16,6 +19,8 @@ pub record Clauses (d : Device) : Type 0 where
   pub fill : (first next end : ℕ) → d .command .fill ≡ running first next end → (first ≤ next) × (next < end) × (end ≤ d .visible)
   -- "an owed fill has first < end ≤ V"
   pub fillSector : (p first end : ℕ) → getD (d .command .pending) p none ≡ fillData first end → (first < end) × (end ≤ d .visible)
+  -- W-202: "In a sound record an owed Long transfer has its LBA below V."
+  pub long : (dir : Direction) (p lba : ℕ) → getD (d .command .pending) p none ≡ longTransfer dir lba → lba < d .visible
   -- "a fill and an owed transfer never coexist"
   pub apart : (first next end p : ℕ) → d .command .fill ≡ running first next end → getD (d .command .pending) p none ≡ none
   -- "the stored code is FFFFh exactly while a fill runs"
@@ -41,22 +46,12 @@ code-at f code first next end v e = rw e at v
 code-idle : (f : Fill) (code : ℕ) → CodeValid f code → f ≡ idle → code ≡ 0xFFFF → ⊥
 code-idle f code v e = rw e at v
 
-pending-at : (visible : ℕ) (ts : List Transfer) (p first end : ℕ) → PendingValid visible ts → getD ts p none ≡ fillData first end → (first < end) × (end ≤ visible)
-pending-at visible [] p first end v e = absurd (let z : _≡_ {A = ℕ} 0 1 = cc in omega arith)
-pending-at visible (none ∷ ts) zero first end v e = absurd (let z : _≡_ {A = ℕ} 0 1 = cc in omega arith)
-pending-at visible (table ∷ ts) zero first end v e = absurd (let z : _≡_ {A = ℕ} 0 1 = cc in omega arith)
-pending-at visible (fillData a b ∷ ts) zero first end v e =
-    let low : a ≡ first = cc in
-    let high : b ≡ end = cc in
-    omega (arith, v .0)
-pending-at visible (t ∷ ts) (suc p) first end v e = pending-at visible ts p first end (v .1) e
+fill-pending : (visible : ℕ) (t : Transfer) (first end : ℕ) → TransferValid visible t → t ≡ fillData first end → (first < end) × (end ≤ visible)
+fill-pending visible t first end v e = rw e at v
 
-none-at : (ts : List Transfer) (p : ℕ) → pendingCount ts ≤ 0 → getD ts p none ≡ none
-none-at [] p h = refl
-none-at (none ∷ ts) zero h = refl
-none-at (none ∷ ts) (suc p) h = none-at ts p h
-none-at (table ∷ ts) p h = absurd (omega arith)
-none-at (fillData a b ∷ ts) p h = absurd (omega arith)
+long-pending : (visible : ℕ) (t : Transfer) (dir : Direction) (lba : ℕ) → TransferValid visible t → t ≡ longTransfer dir lba → lba < visible
+long-pending visible t read lba v e = rw e at v
+long-pending visible t write lba v e = rw e at v
 
 limit-at : (f : Fill) (first next end n : ℕ) → n ≤ pendingLimit f → f ≡ running first next end → n ≤ 0
 limit-at f first next end n h e = rw e at h
@@ -69,9 +64,10 @@ valid-clauses d v =
     record {
       sizes = v .sizes;
       fill = λ first next end e. fill-at (d .visible) (d .command .fill) first next end (c .fillValid) e;
-      fillSector = λ p first end e. pending-at (d .visible) (d .command .pending) p first end (c .pendingValid) e;
+      fillSector = λ p first end e. fill-pending (d .visible) (getD (d .command .pending) p none) first end (pending-for (d .visible) (d .command .pending) p (c .pendingValid)) e;
+      long = λ dir p lba e. long-pending (d .visible) (getD (d .command .pending) p none) dir lba (pending-for (d .visible) (d .command .pending) p (c .pendingValid)) e;
       apart = λ first next end p e.
-          none-at (d .command .pending) p (limit-at (d .command .fill) first next end (pendingCount (d .command .pending)) (c .onlyOne) e);
+          empty-rest (d .command .pending) p (limit-at (d .command .fill) first next end (pendingCount (d .command .pending)) (c .onlyOne) e);
       runningCode = λ first next end e. code-at (d .command .fill) (d .command .code) first next end (c .codeValid) e;
       idleCode = λ e. code-idle (d .command .fill) (d .command .code) (c .codeValid) e;
       timers = (s .readValid, s .writeValid);
@@ -103,17 +99,23 @@ code-from : (f : Fill) (code : ℕ) → ((first next end : ℕ) → f ≡ runnin
 code-from idle code k l = l refl
 code-from (running first next end) code k l = k first next end refl
 
-pending-from : (visible : ℕ) (ts : List Transfer) → ((p first end : ℕ) → getD ts p none ≡ fillData first end → (first < end) × (end ≤ visible)) → PendingValid visible ts
-pending-from visible [] k = tt
-pending-from visible (none ∷ ts) k = (tt, pending-from visible ts (λ p. k (suc p)))
-pending-from visible (table ∷ ts) k = (tt, pending-from visible ts (λ p. k (suc p)))
-pending-from visible (fillData first end ∷ ts) k = (k 0 first end refl, pending-from visible ts (λ p. k (suc p)))
+transfer-from : (visible : ℕ) (t : Transfer) → ((first end : ℕ) → t ≡ fillData first end → (first < end) × (end ≤ visible))
+    → ((dir : Direction) (lba : ℕ) → t ≡ longTransfer dir lba → lba < visible) → TransferValid visible t
+transfer-from visible none k l = tt
+transfer-from visible table k l = tt
+transfer-from visible (fillData first end) k l = k first end refl
+transfer-from visible (readLong lba) k l = l read lba refl
+transfer-from visible (writeLong lba) k l = l write lba refl
+
+pending-from : (visible : ℕ) (ts : List Transfer) → ((p first end : ℕ) → getD ts p none ≡ fillData first end → (first < end) × (end ≤ visible))
+    → ((dir : Direction) (p lba : ℕ) → getD ts p none ≡ longTransfer dir lba → lba < visible) → PendingValid visible ts
+pending-from visible [] k l = tt
+pending-from visible (t ∷ ts) k l =
+    (transfer-from visible t (k 0) (λ dir. l dir 0), pending-from visible ts (λ p. k (suc p)) (λ dir p. l dir (suc p)))
 
 none-from : (ts : List Transfer) → ((p : ℕ) → getD ts p none ≡ none) → pendingCount ts ≤ 0
 none-from [] k = omega arith
-none-from (none ∷ ts) k = none-from ts (λ p. k (suc p))
-none-from (table ∷ ts) k = absurd (let e = k 0 in let z : _≡_ {A = ℕ} 0 1 = cc in omega arith)
-none-from (fillData first end ∷ ts) k = absurd (let e = k 0 in let z : _≡_ {A = ℕ} 0 1 = cc in omega arith)
+none-from (t ∷ ts) k = rw (k 0) (none-from ts (λ p. k (suc p)))
 
 limit-from : (f : Fill) (ts : List Transfer) → pendingCount ts ≤ 1 → ((first next end p : ℕ) → f ≡ running first next end → getD ts p none ≡ none) → pendingCount ts ≤ pendingLimit f
 limit-from idle ts one k = one
@@ -127,7 +129,7 @@ clauses-valid d s t =
           record {
             codeValid = code-from (d .command .fill) (d .command .code) (s .runningCode) (s .idleCode);
             fillValid = fill-from (d .visible) (d .command .fill) (s .fill);
-            pendingValid = pending-from (d .visible) (d .command .pending) (s .fillSector);
+            pendingValid = pending-from (d .visible) (d .command .pending) (s .fillSector) (s .long);
             onlyOne = limit-from (d .command .fill) (d .command .pending) (t .onlyOne) (s .apart);
             places = t .places;
             words = t .words;

@@ -13,7 +13,7 @@ use Rattle.wire.specs.Choice.{if_then_else_}
 use Rattle.wire.specs.Bytes.{Bytes}
 use Rattle.wire.proofs.BytesLaws.{bytes-set, bytes-replicate}
 use Rattle.model.specs.Sizes.{nativeLimit, portCount, historySize, missing}
-use Rattle.model.specs.Device.{Fill, idle, running, Transfer, none, table, fillData, Feature, Command, Settings, Thermal, Device}
+use Rattle.model.specs.Device.{Fill, idle, running, Transfer, none, table, fillData, readLong, writeLong, Feature, Command, Settings, Thermal, Device}
 use Rattle.model.specs.Update.{withCommand, withSettings, withThermal, withInitialized, withLocked, withVisible, withCode, withKey, withFill, withPending}
 use Rattle.model.specs.Registers.{Direction, read, write}
 use Rattle.model.specs.Key.{FeatureName, writeCache, reordering, logInterval, highestState}
@@ -155,12 +155,28 @@ count-none : (n : ℕ) → pendingCount (replicate n none) ≡ 0
 count-none zero = refl
 count-none (suc n) = count-none n
 
+-- a transfer in front of others counts 1, unless it is none
+abbrev pub FirstCounts : Transfer → List Transfer → Type 0
+FirstCounts t ts = ((t ≡ none) × (pendingCount (t ∷ ts) ≡ pendingCount ts)) ⊎ (pendingCount (t ∷ ts) ≡ 1 + pendingCount ts)
+
+pub count-first : (t : Transfer) (ts : List Transfer) → FirstCounts t ts
+count-first none ts = inl (refl, refl)
+count-first table ts = inr refl
+count-first (fillData first end) ts = inr refl
+count-first (readLong lba) ts = inr refl
+count-first (writeLong lba) ts = inr refl
+
+pub count-bounds : (t : Transfer) (ts : List Transfer) → (pendingCount ts ≤ pendingCount (t ∷ ts)) × (pendingCount (t ∷ ts) ≤ 1 + pendingCount ts)
+count-bounds t ts = go (count-first t ts)
+  where
+    go : FirstCounts t ts → (pendingCount ts ≤ pendingCount (t ∷ ts)) × (pendingCount (t ∷ ts) ≤ 1 + pendingCount ts)
+    go (inl e) = (omega (arith, e .1), omega (arith, e .1))
+    go (inr e) = (omega (arith, e), omega (arith, e))
+
 -- with one transfer set and no other, at most one is pending
 count-set : (n p : ℕ) (t : Transfer) → pendingCount (set (replicate n none) p t) ≤ 1
 count-set zero p t = omega arith
-count-set (suc n) zero none = omega (arith, count-none n)
-count-set (suc n) zero table = omega (arith, count-none n)
-count-set (suc n) zero (fillData first end) = omega (arith, count-none n)
+count-set (suc n) zero t = omega (arith, count-none n, count-bounds t (replicate n none) .1)
 count-set (suc n) (suc p) t = count-set n p t
 
 pub pending-valid : (p : ℕ) (t : Transfer) (d : Device) → Valid d → Quiet d → TransferValid (d .visible) t → Valid (withPending (set (d .command .pending) p t) d)

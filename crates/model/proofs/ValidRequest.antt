@@ -13,12 +13,13 @@ use Rattle.wire.proofs.ChoiceLaws.{bit-small, all-pass, first-bound}
 use Rattle.wire.proofs.PartsLaws.{length-part}
 use Rattle.wire.proofs.BytesLaws.{bytes-part, get-fits}
 use Rattle.model.specs.Sizes.{sectorSize, registersSize, mailboxSize}
-use Rattle.model.specs.Device.{Fill, idle, running, Transfer, none, table, fillData, Settings, Device}
+use Rattle.model.specs.Device.{Fill, idle, running, Transfer, none, table, fillData, readLong, writeLong, Settings, Device}
+use Rattle.model.specs.Disk.{LongSector}
 use Rattle.model.specs.Update.{withCode, withKey}
-use Rattle.model.specs.Registers.{Direction, read, write, Request, statusRead, keySector, dataTransfer, sectorAccess, other, dataOf, requestOf, Registers, good, refused, refusedWith}
-use Rattle.model.specs.Key.{word, FeatureName, writeCache, reordering, logInterval, Action, fillPattern, fillSector, setTimer, returnTimer, setFeature, returnState, returnOption, sendTable, Verdict, accepted, rejected, keyChecks, actionOf, judgeKey}
+use Rattle.model.specs.Registers.{Direction, read, write, Request, statusRead, keySector, dataTransfer, sectorAccess, other, dataOf, longDataOf, requestOf, Registers, good, refused, refusedWith}
+use Rattle.model.specs.Key.{word, FeatureName, writeCache, reordering, logInterval, Action, accessLong, fillPattern, fillSector, setTimer, returnTimer, setFeature, returnState, returnOption, sendTable, Verdict, accepted, rejected, keyChecks, actionOf, judgeKey}
 use Rattle.model.specs.Fill.{interrupt}
-use Rattle.model.specs.Decide.{Serving, Writing, noWrite, oneSector, newFill, Sending, noData, status, temperatures, diskSector, Effect, nothing, sending, Decision, decision, decideStatus, timer, feature, carryOut, decideVerdict, decideKey, dataChecks, transferEffect, decideData, sectorChecks, sectorEffect, decideSector, pendingFor, decideRequest, decide}
+use Rattle.model.specs.Decide.{Serving, Writing, noWrite, oneSector, newFill, Sending, noData, status, temperatures, diskSector, storedSector, Effect, nothing, sending, Decision, decision, decideStatus, timer, feature, longTransfer, carryOut, decideVerdict, decideKey, dataChecks, transferEffect, decideData, sectorChecks, sectorEffect, decideSector, pendingFor, decideRequest, decide}
 use Rattle.model.specs.Machine.{Port, empty, request, reply, heldBytes}
 use Rattle.model.specs.Step.{isRequest}
 use Rattle.model.specs.Valid.{TransferValid, PendingValid, pendingCount, pendingLimit, SettingsValid, Valid, Sized, PortValid}
@@ -26,12 +27,12 @@ use Rattle.model.proofs.KeyLaws.{key-codes, verdict-rejected, ActionVal
 use Rattle.model.proofs.FormatLaws.{RegistersFit}
 use Rattle.model.proofs.RequestLaws.{interrupt-kept}
 use Rattle.model.proofs.OwnerLaws.{Quiet, interrupt-quiet}
-use Rattle.model.proofs.ValidDevice.{interrupt-valid, code-valid, key-valid, pending-valid, timer-set, feature-set}
+use Rattle.model.proofs.ValidDevice.{interrupt-valid, code-valid, key-valid, FirstCounts, count-first, count-bounds, pending-valid, timer-set, feature-set}
 
 -- what an effect's values must satisfy on the decided device
 abbrev pub WritingValid : Device → Writing → Type 0
 WritingValid d noWrite = Unit {0}
-WritingValid d (oneSector lba sector) = (lba < d .visible) × Sized sectorSize sector
+WritingValid d (oneSector lba x) = (lba < d .visible) × Sized sectorSize (x .content)
 WritingValid d (newFill first end sector) = (first < end) × (end ≤ d .visible) × Sized sectorSize sector × Quiet d
 
 abbrev pub SendingValid : ℕ → Sending → Type 0
@@ -39,6 +40,7 @@ SendingValid visible noData = Unit {0}
 SendingValid visible status = Unit {0}
 SendingValid visible temperatures = Unit {0}
 SendingValid visible (diskSector lba) = lba < visible
+SendingValid visible (storedSector lba) = lba < visible
 
 abbrev pub EffectValid : Device → Effect → Type 0
 EffectValid d e = WritingValid d (e .writes) × SendingValid (d .visible) (e .sends)
@@ -102,9 +104,15 @@ plain = good-fits 0 0 (omega arith) (omega arith)
 one-pending : RegistersFit (good 0 1)
 one-pending = good-fits 0 1 (omega arith) (omega arith)
 
+long-in-range : (dir : Direction) (visible lba : ℕ) → lba < visible → TransferValid visible (longTransfer dir lba)
+long-in-range read visible lba h = h
+long-in-range write visible lba h = h
+
 module _ (d : Device) (p : ℕ) (v : Valid d) (q : Quiet d) where
   carry-valid : (a : Action) → ActionValid (d .visible) a → DecisionValid d (carryOut a p d)
   unfolding carryOut
+  carry-valid (accessLong dir lba) k =
+      still d _ _ (pending-valid p (longTransfer dir lba) d v q (long-in-range dir (d .visible) lba k)) (good-fits 2 2 (omega arith) (omega arith)) (refl, refl) refl
   carry-valid (fillPattern first end sector) k =
       record { deviceValid = v; effectValid = ((k .0, k .1, k .2, q), tt); fits = plain; sameSizes = (refl, refl); sameFill = inr refl }
   carry-valid (fillSector first end) k = still d _ _ (pending-valid p (fillData first end) d v q k) one-pending (refl, refl) refl
@@ -151,20 +159,22 @@ module _ (d : Device) (p : ℕ) (v : Valid d) (q : Quiet d) where
 -- ---- a transfer
 
 -- the transfer that a port has pending is in range
-pending-for : (visible : ℕ) (ts : List Transfer) (p : ℕ) → PendingValid visible ts → TransferValid visible (getD ts p none)
+pub pending-for : (visible : ℕ) (ts : List Transfer) (p : ℕ) → PendingValid visible ts → TransferValid visible (getD ts p none)
 pending-for visible [] zero v = tt
 pending-for visible [] (suc p) v = tt
 pending-for visible (t ∷ ts) zero v = v .0
 pending-for visible (t ∷ ts) (suc p) v = pending-for visible ts p (v .1)
 
-module _ (d : Device) (v : Valid d) (sector : List ℕ) (whole : Sized sectorSize sector) where
-  transfer-effect : (t : Transfer) → TransferValid (d .visible) t → EffectValid (withCode 0x0000 (interrupt d)) (transferEffect t sector)
+module _ (d : Device) (v : Valid d) (x : LongSector) (whole : Sized sectorSize (x .content)) where
+  transfer-effect : (t : Transfer) → TransferValid (d .visible) t → EffectValid (withCode 0x0000 (interrupt d)) (transferEffect t x)
   transfer-effect none k = (tt, tt)
   transfer-effect table k = (tt, tt)
   transfer-effect (fillData first end) k =
       ((k .0, rw (sizes-kept d .1) (k .1), whole, record { noFill = interrupt-quiet d .noFill; noTransfer = interrupt-quiet d .noTransfer }), tt)
+  transfer-effect (readLong lba) k = (tt, rw (sizes-kept d .1) k)
+  transfer-effect (writeLong lba) k = ((rw (sizes-kept d .1) k, whole), tt)
 
-  data-decided : (dir : Direction) (count : ℕ) (t : Transfer) → TransferValid (d .visible) t → DecisionValid d (decideData dir count t sector (interrupt d))
+  data-decided : (dir : Direction) (count : ℕ) (t : Transfer) → TransferValid (d .visible) t → DecisionValid d (decideData dir count t x (interrupt d))
   unfolding decideData
   data-decided dir count t k = go (firstFailed cs) (first-bound 0x12 cs (omega arith))
     where
@@ -173,13 +183,13 @@ module _ (d : Device) (v : Valid d) (sector : List ℕ) (whole : Sized sectorSiz
 
       go : (n : ℕ) → n ≤ 0x12
           → DecisionValid d
-          (ifPassed n (decision (withCode 0x0000 (interrupt d)) (good 0 0) (transferEffect t sector)) (decision (withCode n (interrupt d)) (refusedWith n) nothing))
-      go zero h = coded-valid d 0x0000 (good 0 0) (transferEffect t sector) v (omega arith) plain (transfer-effect t k)
+          (ifPassed n (decision (withCode 0x0000 (interrupt d)) (good 0 0) (transferEffect t x)) (decision (withCode n (interrupt d)) (refusedWith n) nothing))
+      go zero h = coded-valid d 0x0000 (good 0 0) (transferEffect t x) v (omega arith) plain (transfer-effect t k)
       go (suc n) h = coded-valid d (suc n) (refusedWith (suc n)) nothing v (omega arith) (code-fits (suc n) (omega arith)) (tt, tt)
 
   -- ---- one sector
 
-  sector-decided : (dir : Direction) (count lba : ℕ) → DecisionValid d (decideSector dir count lba sector (interrupt d))
+  sector-decided : (dir : Direction) (count lba : ℕ) → DecisionValid d (decideSector dir count lba (x .content) (interrupt d))
   unfolding decideSector
   sector-decided dir count lba = go (firstFailed cs) refl (first-bound 0x10 cs (omega arith))
     where
@@ -189,12 +199,12 @@ module _ (d : Device) (v : Valid d) (sector : List ℕ) (whole : Sized sectorSiz
       within : firstFailed cs ≡ 0 → lba < interrupt d .visible
       within e = ltb-true lba (interrupt d .visible) (all-pass 0x10 cs (omega arith) e .1 .1 .0)
 
-      effect-valid : (dir : Direction) → lba < interrupt d .visible → EffectValid (interrupt d) (sectorEffect dir lba sector)
+      effect-valid : (dir : Direction) → lba < interrupt d .visible → EffectValid (interrupt d) (sectorEffect dir lba (x .content))
       effect-valid read h = (tt, h)
       effect-valid write h = ((h, whole), tt)
 
       go : (n : ℕ) → firstFailed cs ≡ n → n ≤ 0x10
-          → DecisionValid d (ifPassed n (decision (interrupt d) (good 0 0) (sectorEffect dir lba sector)) (decision (interrupt d) (refused n) nothing))
+          → DecisionValid d (ifPassed n (decision (interrupt d) (good 0 0) (sectorEffect dir lba (x .content))) (decision (interrupt d) (refused n) nothing))
       go zero e h =
           record {
             deviceValid = interrupt-valid d v;
@@ -216,40 +226,39 @@ module _ (d : Device) (v : Valid d) (sector : List ℕ) (whole : Sized sectorSiz
 
 -- a place with a pending transfer is counted
 counted : (ts : List Transfer) (q : ℕ) → (getD ts q none ≡ none → ⊥) → 1 ≤ pendingCount ts
-counted [] zero ne = absurd (ne refl)
-counted [] (suc q) ne = absurd (ne refl)
-counted (none ∷ ts) zero ne = absurd (ne refl)
-counted (table ∷ ts) zero ne = omega arith
-counted (fillData first end ∷ ts) zero ne = omega arith
-counted (none ∷ ts) (suc q) ne = counted ts q ne
-counted (table ∷ ts) (suc q) ne = omega arith
-counted (fillData first end ∷ ts) (suc q) ne = omega arith
+counted [] q ne = absurd (ne refl)
+counted (t ∷ ts) zero ne = go (count-first t ts)
+  where
+    go : FirstCounts t ts → 1 ≤ pendingCount (t ∷ ts)
+    go (inl e) = absurd (ne (e .0))
+    go (inr e) = omega (arith, e)
+counted (t ∷ ts) (suc q) ne = omega (arith, counted ts q ne, count-bounds t ts .0)
 
 -- if nothing is pending, no port has a transfer
-empty-rest : (ts : List Transfer) (p : ℕ) → pendingCount ts ≤ 0 → getD ts p none ≡ none
-empty-rest [] zero h = refl
-empty-rest [] (suc p) h = refl
-empty-rest (none ∷ ts) zero h = refl
-empty-rest (none ∷ ts) (suc p) h = empty-rest ts p h
-empty-rest (table ∷ ts) zero h = absurd (omega arith)
-empty-rest (table ∷ ts) (suc p) h = absurd (omega arith)
-empty-rest (fillData first end ∷ ts) zero h = absurd (omega arith)
-empty-rest (fillData first end ∷ ts) (suc p) h = absurd (omega arith)
+pub empty-rest : (ts : List Transfer) (p : ℕ) → pendingCount ts ≤ 0 → getD ts p none ≡ none
+empty-rest [] p h = refl
+empty-rest (t ∷ ts) zero h = go (count-first t ts)
+  where
+    go : FirstCounts t ts → t ≡ none
+    go (inl e) = e .0
+    go (inr e) = absurd (omega (arith, e, h))
+empty-rest (t ∷ ts) (suc p) h = empty-rest ts p (omega (arith, h, count-bounds t ts .0))
 
 -- if at most one is pending, every other port has none
 alone : (ts : List Transfer) (p q : ℕ) → pendingCount ts ≤ 1 → (q ≡ p → ⊥) → (getD ts q none ≡ none → ⊥) → getD ts p none ≡ none
-alone [] zero q one ne some = refl
-alone [] (suc p) q one ne some = refl
+alone [] p q one ne some = refl
 alone (t ∷ ts) zero zero one ne some = absurd (ne refl)
-alone (none ∷ ts) zero (suc q) one ne some = refl
-alone (table ∷ ts) zero (suc q) one ne some = absurd (let c = counted ts q some in omega arith)
-alone (fillData first end ∷ ts) zero (suc q) one ne some = absurd (let c = counted ts q some in omega arith)
-alone (none ∷ ts) (suc p) zero one ne some = absurd (some refl)
-alone (table ∷ ts) (suc p) zero one ne some = empty-rest ts p (omega arith)
-alone (fillData first end ∷ ts) (suc p) zero one ne some = empty-rest ts p (omega arith)
-alone (none ∷ ts) (suc p) (suc q) one ne some = alone ts p q one (λ e. ne (ap suc e)) some
-alone (table ∷ ts) (suc p) (suc q) one ne some = alone ts p q (omega arith) (λ e. ne (ap suc e)) some
-alone (fillData first end ∷ ts) (suc p) (suc q) one ne some = alone ts p q (omega arith) (λ e. ne (ap suc e)) some
+alone (t ∷ ts) zero (suc q) one ne some = go (count-first t ts)
+  where
+    go : FirstCounts t ts → t ≡ none
+    go (inl e) = e .0
+    go (inr e) = absurd (omega (arith, e, one, counted ts q some))
+alone (t ∷ ts) (suc p) zero one ne some = go (count-first t ts)
+  where
+    go : FirstCounts t ts → getD ts p none ≡ none
+    go (inl e) = absurd (some (e .0))
+    go (inr e) = empty-rest ts p (omega (arith, e, one))
+alone (t ∷ ts) (suc p) (suc q) one ne some = alone ts p q (omega (arith, one, count-bounds t ts .0)) (λ e. ne (ap suc e)) some
 
 limit-one : (f : Fill) → pendingLimit f ≤ 1
 limit-one idle = omega arith
@@ -296,8 +305,8 @@ request-valid q s m d v whole = go q
           sameFill = same-fill _ (keyed .sameFill);
         }
     go (dataTransfer dir count) =
-        data-decided d v (dataOf m) sector dir count (pendingFor (s .port) d) (pending-for (d .visible) (d .command .pending) (s .port) (v .commandValid .pendingValid))
-    go (sectorAccess dir count lba) = sector-decided d v (dataOf m) sector dir count lba
+        data-decided d v (longDataOf m) sector dir count (pendingFor (s .port) d) (pending-for (d .visible) (d .command .pending) (s .port) (v .commandValid .pendingValid))
+    go (sectorAccess dir count lba) = sector-decided d v (longDataOf m) sector dir count lba
     go other =
         record {
           deviceValid = interrupt-valid d v;

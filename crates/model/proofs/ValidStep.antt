@@ -4,31 +4,38 @@ use mathlib.Core.Bool.{Bool, true, false, _||_}
 use mathlib.Core.Logic.{_⊎_, inl, inr}
 use Prim.Native.Nat.{ℕ, zero, suc, _*_, _/_, _%_, _≤_, _<_}
 use native.Mathlib.Omega.{arith}
-use mathlib.Core.List.{List}
-use lib.ListN.{length}
-use lib.Seq.{length-sets}
+use mathlib.Core.List.{List, []}
+use lib.ListN.{length, length-append}
+use lib.Seq.{sets, length-sets}
 use lib.Dec.{eqb}
-use borrow.Author.Tests.{eqb-true, eqb-false}
+use borrow.Author.Tests.{eqb-true, eqb-false, ltb-true}
 use Rattle.wire.specs.Choice.{if_then_else_, firstFailed}
+use Rattle.wire.specs.Numbers.{le, put}
 use Rattle.wire.specs.Bytes.{Bytes}
 use Rattle.wire.proofs.ChoiceLaws.{and-left, and-right, between-true, all-pass}
+use Rattle.wire.proofs.NumbersLaws.{length-le}
 use Rattle.wire.proofs.PartsLaws.{length-part}
-use Rattle.wire.proofs.BytesLaws.{bytes-nil, bytes-part, bytes-sets, bytes-form}
-use Rattle.model.specs.Sizes.{sectorSize, dataSize, mailboxSize, nativeLimit}
+use Rattle.wire.proofs.BytesLaws.{bytes-nil, bytes-append, bytes-part, bytes-sets, bytes-le, bytes-form}
+use Rattle.sector_check.specs.Repair.{repairedSector}
+use Rattle.sector_check.proofs.SectorLaws.{bytes-repaired}
+use Rattle.model.specs.Sizes.{sectorSize, checkSize, dataSize, mailboxSize, nativeLimit}
 use Rattle.model.specs.Device.{Fill, idle, running, Device}
-use Rattle.model.specs.Disk.{Disk, withSector}
+use Rattle.model.specs.Disk.{Disk, LongSector, nativeSize, checked, sectorAt, withSector}
+use Rattle.model.specs.Registers.{Registers, refused, replyBytes}
 use Rattle.model.specs.Update.{withInitialized, withLocked, withFill}
 use Rattle.model.specs.Status.{statusFields, statusSector}
 use Rattle.model.specs.Fill.{Volume, runningCode, wholeDisk, interrupt, writeSector, advanced, fillStep, sectorStep, iterate, workCount}
 use Rattle.model.specs.Fill.{work as workVolume}
-use Rattle.model.specs.Decide.{Writing, noWrite, oneSector, newFill, Sending, noData, status, temperatures, diskSector, Decision, decide}
-use Rattle.model.specs.Perform.{written, volumeAfter, fillSectorAfter, contentRead, sent, replyOf}
+use Rattle.model.specs.Decide.{Writing, noWrite, oneSector, newFill, Sending, noData, status, temperatures, diskSector, storedSector, Decision, decide}
+use Rattle.model.specs.Perform.{written, volumeAfter, fillSectorAfter, temperatureTable, sectorRead, sameCheck, longBytes, replyWith, replyOf}
+use Rattle.model.specs.Repair.{repairReport, repairedDevice, repairedDisk}
+use Rattle.model.specs.Repair.{repair as repairVolume}
 use Rattle.model.specs.Owner.{setLock}
 use Rattle.model.specs.Owner.{setVisible as setVisibleDevice, sample as sampleDevice}
-use Rattle.model.specs.Image.{readable, powerOnChecks, sameDisk, restored, blank, newestIn}
+use Rattle.model.specs.Image.{wholeSectors, readable, powerOnChecks, sameDisk, restored, blank, newestIn}
 use Rattle.model.specs.Image.{powerOn as powerOnDevice}
 use Rattle.model.specs.Machine.{Port, empty, request, reply, Machine, whileRunning, machine, withPort, heldBytes}
-use Rattle.model.specs.Step.{OwnerStep, lock, unlock, setVisible, sample, Step, take, serve, give, work, owner, save, powerOn, goodValue, checks, does, isRequest, volume, served, serveDecided, worked, poweredOn, step}
+use Rattle.model.specs.Step.{OwnerStep, lock, unlock, setVisible, sample, Step, take, serve, give, work, owner, repair, save, powerOn, goodValue, checks, does, isRequest, volume, served, serveDecided, worked, repaired, poweredOn, step}
 use Rattle.model.specs.Valid.{SectorValid, PortValid, Sized, DiskValid, Valid, MachineValid, OwnerFed, Fed}
 use Rattle.model.proofs.StepLaws.{step-done, step-refused, answers-numbered}
 use Rattle.model.proofs.FormatLaws.{status-at, table-at, table-bytes, reply-sized}
@@ -45,21 +52,27 @@ pub record VolumeValid (v : Volume) : Type 0 where
   pub deviceValid : Valid (v .device)
   pub diskValid : DiskValid (v .device .native) (v .disk)
 
-write-valid : (lba : ℕ) (sector : List ℕ) (v : Volume) → VolumeValid v → Sized sectorSize sector → VolumeValid (writeSector lba sector v)
-unfolding writeSector
-write-valid lba sector v ok s =
+-- bytes stored in a run of bytes
+stored-sized : (n : ℕ) (bytes l : List ℕ) (at : ℕ) → Sized n l → Bytes bytes → Sized n (sets l at bytes)
+stored-sized n bytes l at s b = record { size = length-sets l at bytes ∙ s .size; bytes = bytes-sets bytes l at (s .bytes) b }
+
+write-valid : (lba : ℕ) (x : LongSector) (v : Volume) → VolumeValid v → Sized sectorSize (x .content) → VolumeValid (writeSector lba x v)
+unfolding writeSector put
+write-valid lba x v ok s =
+    let n = v .device .native in
     record {
       deviceValid = initialized-valid false (v .device) (ok .deviceValid);
       diskValid =
           record {
-            size = length-sets (v .disk .sectors) (sectorSize * lba) sector ∙ ok .diskValid .size;
-            bytes = bytes-sets sector (v .disk .sectors) (sectorSize * lba) (ok .diskValid .bytes) (s .bytes);
+            sectorsValid = stored-sized (sectorSize * n) (x .content) (v .disk .sectors) (sectorSize * lba) (ok .diskValid .sectorsValid) (s .bytes);
+            checkAreaValid =
+                stored-sized (checkSize * n) (le checkSize (x .check)) (v .disk .checkArea) (checkSize * lba) (ok .diskValid .checkAreaValid) (bytes-le checkSize (x .check));
           };
     }
 
 written-valid : (w : Writing) (v : Volume) → VolumeValid v → WritingValid (v .device) w → VolumeValid (written w v)
 written-valid noWrite v ok k = ok
-written-valid (oneSector lba sector) v ok k = write-valid lba sector v ok (k .1)
+written-valid (oneSector lba x) v ok k = write-valid lba x v ok (k .1)
 written-valid (newFill first end sector) v ok k =
     record { deviceValid = start-valid first end (v .device) (ok .deviceValid) (k .3) (k .0) (k .1); diskValid = ok .diskValid }
 
@@ -67,30 +80,56 @@ written-valid (newFill first end sector) v ok k =
 pub written-sizes : (w : Writing) (v : Volume) → (written w v .device .native ≡ v .device .native) × (written w v .device .visible ≡ v .device .visible)
 unfolding writeSector
 written-sizes noWrite v = (refl, refl)
-written-sizes (oneSector lba sector) v = (refl, refl)
+written-sizes (oneSector lba x) v = (refl, refl)
 written-sizes (newFill first end sector) v = (refl, refl)
 
 -- the data of a reply is bytes, and fits a mailbox
 abbrev SentValid : List ℕ → Type 0
 SentValid l = (length l ≤ dataSize) × Bytes l
 
-sent-valid : (x : Sending) (v : Volume) → VolumeValid v → SendingValid (v .device .visible) x → SentValid (sent x (v .device) (contentRead x (v .disk)))
+status-valid : (d : Device) → Valid d → SentValid (statusSector d)
 unfolding statusSector
-sent-valid noData v ok k = (omega arith, bytes-nil)
-sent-valid status v ok k =
-    (omega (arith, status-at (v .device) (ok .deviceValid) .size), bytes-form sectorSize (statusFields (v .device)))
-sent-valid temperatures v ok k =
-    let d = v .device in
-    let t = ok .deviceValid .thermalValid in
-    let interval = ok .deviceValid .settingsValid .intervalValid .1 in
+status-valid d ok = (omega (arith, status-at d ok .size), bytes-form sectorSize (statusFields d))
+
+temperatures-valid : (d : Device) → Valid d → SentValid (temperatureTable d)
+temperatures-valid d ok =
+    let t = ok .thermalValid in
+    let interval = ok .settingsValid .intervalValid .1 in
     let at = table-at (d .settings .logInterval .state) (d .thermal .index) (d .thermal .history) (omega arith) (omega (arith, t .indexValid)) (t .whole) in (
       omega (arith, at .size),
       table-bytes (d .settings .logInterval .state) (d .thermal .index) (d .thermal .history) (t .readings),
     )
-sent-valid (diskSector lba) v ok k = (
-  omega (arith, length-part (v .disk .sectors) (sectorSize * lba) sectorSize (omega (arith, ok .diskValid .size, ok .deviceValid .sizes .1))),
-  bytes-part (v .disk .sectors) (sectorSize * lba) sectorSize (ok .diskValid .bytes),
-)
+
+pub content-valid : (lba : ℕ) (v : Volume) → VolumeValid v → lba < v .device .visible → Sized sectorSize (sectorAt lba (v .disk) .content)
+content-valid lba v ok k =
+    let s = ok .diskValid .sectorsValid in
+    record {
+      size = length-part (v .disk .sectors) (sectorSize * lba) sectorSize (omega (arith, s .size, ok .deviceValid .sizes .1));
+      bytes = bytes-part (v .disk .sectors) (sectorSize * lba) sectorSize (s .bytes);
+    }
+
+long-valid : (lba : ℕ) (v : Volume) → VolumeValid v → lba < v .device .visible → SentValid (longBytes (sectorAt lba (v .disk)))
+long-valid lba v ok k =
+    let x = sectorAt lba (v .disk) in
+    let s = content-valid lba v ok k in (
+      rw (length-append, s .size, length-le checkSize (x .check)) (omega arith),
+      bytes-append (x .content) (le checkSize (x .check)) (s .bytes) (bytes-le checkSize (x .check)),
+    )
+
+replied-valid : (r : Registers) (x : Sending) (v : Volume) → VolumeValid v → SendingValid (v .device .visible) x
+    → Sized mailboxSize (replyWith r x (v .device) (sectorRead x (v .disk)))
+replied-valid r noData v ok k = reply-sized r [] (omega arith) bytes-nil
+replied-valid r status v ok k = let s = status-valid (v .device) (ok .deviceValid) in reply-sized r (statusSector (v .device)) (s .0) (s .1)
+replied-valid r temperatures v ok k = let s = temperatures-valid (v .device) (ok .deviceValid) in reply-sized r (temperatureTable (v .device)) (s .0) (s .1)
+replied-valid r (diskSector lba) v ok k = go (sameCheck (sectorAt lba (v .disk)))
+  where
+    content : List ℕ
+    content = sectorAt lba (v .disk) .content
+
+    go : (b : Bool) → Sized mailboxSize (if b then replyBytes r content else replyBytes (refused 0x40) [])
+    go true = let s = content-valid lba v ok k in reply-sized r content (omega (arith, s .size)) (s .bytes)
+    go false = reply-sized (refused 0x40) [] (omega arith) bytes-nil
+replied-valid r (storedSector lba) v ok k = let s = long-valid lba v ok k in reply-sized r (longBytes (sectorAt lba (v .disk))) (s .0) (s .1)
 
 -- ---- the fill's sector
 
@@ -112,7 +151,7 @@ sector-after : (w : Writing) (v : Volume) (s : List ℕ) → WritingValid (v .de
     → Suits (written w v .device .command .fill) (fillSectorAfter w s)
 unfolding writeSector
 sector-after noWrite v s k h = h
-sector-after (oneSector lba sector) v s k h = h
+sector-after (oneSector lba x) v s k h = h
 sector-after (newFill first end sector) v s k h = k .2
 
 -- the decided fill is the previous one, or none
@@ -143,9 +182,7 @@ module _ (p : ℕ) (c : Decision) (M : Machine) (ok : MachineValid M) (k : Decis
   -- the reply has the size of a mailbox
   pub reply-valid : Sized mailboxSize (replyOf c after)
   reply-valid =
-      let x = c .effect .sends in
-      let s = sent-valid x after after-valid (rw (written-sizes (c .effect .writes) decided .1) (k .effectValid .1)) in
-      reply-sized (c .registers) (sent x (after .device) (contentRead x (after .disk))) (s .0) (s .1)
+      replied-valid (c .registers) (c .effect .sends) after after-valid (rw (written-sizes (c .effect .writes) decided .1) (k .effectValid .1))
 
   pub serve-valid : MachineValid (serveDecided p c M)
   unfolding serveDecided
@@ -183,8 +220,8 @@ running-step-valid : (first next end : ℕ) (sector : List ℕ) (v : Volume) →
 unfolding writeSector
 running-step-valid first next end sector v ok s e =
     let d = withInitialized false (v .device) in
-    let disk = withSector next sector (v .disk) in
-    let w = write-valid next sector v ok s in
+    let disk = withSector next (checked sector) (v .disk) in
+    let w = write-valid next (checked sector) v ok s in
     record {
       volumeValid =
           record {
@@ -269,6 +306,46 @@ sample-valid reading M ok h =
       diskValid = ok .diskValid;
     }
 
+-- ---- repair
+
+-- a device with no fill, and a disk of its size
+quiet-volume : (v : Volume) (M : Machine) → MachineValid M → VolumeValid v → v .device .command .fill ≡ idle
+    → MachineValid (machine (v .device) (M .sector) (M .ports) (v .disk))
+quiet-volume v M ok w none = record { deviceValid = w .deviceValid; sectorValid = rw none; portsValid = ok .portsValid; diskValid = w .diskValid }
+
+repair-valid : (lba : ℕ) (M : Machine) → MachineValid M → lba < M .device .visible → MachineValid (repaired lba M)
+unfolding repaired repairVolume
+repair-valid lba M ok low = go (eqb (repairReport lba (M .disk)) 1)
+  where
+    d : Device
+    d = interrupt (M .device)
+
+    x : LongSector
+    x = sectorAt lba (M .disk)
+
+    content : Sized sectorSize (x .content)
+    content = content-valid lba (volume M) (record { deviceValid = ok .deviceValid; diskValid = ok .diskValid }) low
+
+    stopped : VolumeValid (record { device = d; disk = M .disk })
+    stopped = record { deviceValid = interrupt-valid (M .device) (ok .deviceValid); diskValid = rw (interrupt-native (M .device)) (ok .diskValid) }
+
+    go : (b : Bool) → let v : Volume = record { device = repairedDevice b (M .device); disk = repairedDisk b lba (M .disk) } in
+        MachineValid (machine (v .device) (M .sector) (M .ports) (v .disk))
+    go true =
+        quiet-volume (record { device = withInitialized false d; disk = repairedDisk true lba (M .disk) }) M ok
+        (record {
+          deviceValid = initialized-valid false d (stopped .deviceValid);
+          diskValid =
+              record {
+                sectorsValid =
+                    stored-sized (sectorSize * d .native) (repairedSector (x .check) (x .content)) (M .disk .sectors) (sectorSize * lba) (stopped .diskValid .sectorsValid)
+                    (bytes-repaired (x .check) (x .content) (content .bytes));
+                checkAreaValid = stopped .diskValid .checkAreaValid;
+              };
+        })
+        (interrupt-quiet (M .device) .noFill)
+    go false = quiet-volume (record { device = d; disk = M .disk }) M ok stopped (interrupt-quiet (M .device) .noFill)
+
 -- ---- power-on
 
 -- the device after a power-on is in range
@@ -291,22 +368,26 @@ restored-native native image used h = go (eqb used 0) h
     go true e = refl
     go false e = eqb-true (newestIn image used .native) native e
 
-pub power-on-machine : (disk : Disk) (image : List ℕ) (used : ℕ) → Bytes (disk .sectors) → Bytes image → firstFailed (powerOnChecks (disk .sectors) image used) ≡ 0
-    → MachineValid (poweredOn disk image used)
+pub power-on-machine : (disk : Disk) (image : List ℕ) (used : ℕ) → Bytes (disk .sectors) → Bytes (disk .checkArea) → Bytes image
+    → firstFailed (powerOnChecks disk image used) ≡ 0 → MachineValid (poweredOn disk image used)
 unfolding poweredOn powerOnDevice
-power-on-machine disk image used db ib e =
+power-on-machine disk image used db cb ib e =
     let size = length (disk .sectors) in
-    let pass = all-pass 8 (powerOnChecks (disk .sectors) image used) (omega arith) e in
-    let whole = eqb-true (size % sectorSize) 0 (and-left _ _ (pass .0)) in
-    let sizes = between-true 1 (size / sectorSize) nativeLimit (and-right (eqb (size % sectorSize) 0) _ (pass .0)) in
+    let native = nativeSize disk in
+    let pass = all-pass 8 (powerOnChecks disk image used) (omega arith) e in
+    let sectors = and-left (wholeSectors size) _ (pass .0) in
+    let checks = eqb-true (length (disk .checkArea)) (checkSize * native) (and-right (wholeSectors size) _ (pass .0)) in
+    let whole = eqb-true (size % sectorSize) 0 (and-left _ _ sectors) in
+    let sizes = between-true 1 native nativeLimit (and-right (eqb (size % sectorSize) 0) _ sectors) in
+    let own = restored-native native image used (pass .1 .1 .1 .0) in
     record {
-      deviceValid = restored-valid (size / sectorSize) image used (sizes .0) (sizes .1) ib (pass .1 .1 .0);
+      deviceValid = restored-valid native image used (sizes .0) (sizes .1) ib (pass .1 .1 .0);
       sectorValid = refl;
       portsValid = λ p. tt;
       diskValid =
           record {
-            size = rw (restored-native (size / sectorSize) image used (pass .1 .1 .1 .0)) (omega arith);
-            bytes = db;
+            sectorsValid = record { size = rw own (omega arith); bytes = db };
+            checkAreaValid = record { size = rw own checks; bytes = cb };
           };
     }
 
@@ -340,8 +421,11 @@ does-valid (serve s) M fed ok e =
 does-valid (give p m) M fed ok e = port-changed p empty M ok tt
 does-valid (work n) M fed ok e = work-valid n M ok
 does-valid (owner x) M fed ok e = owner-valid x M fed ok (all-pass 8 (checks (owner x) M) (answers-numbered (owner x) M) e .0)
+does-valid (repair lba) M fed ok e =
+    repair-valid lba M ok (ltb-true lba (M .device .visible) (all-pass 8 (checks (repair lba) M) (answers-numbered (repair lba) M) e .0))
 does-valid (save image used) M fed ok e = ok
-does-valid (powerOn image used) M fed ok e = power-on-machine (M .disk) image used (ok .diskValid .bytes) fed e
+does-valid (powerOn image used) M fed ok e =
+    power-on-machine (M .disk) image used (ok .diskValid .sectorsValid .bytes) (ok .diskValid .checkAreaValid .bytes) fed e
 
 -- THEOREM: every step, refused or not, keeps the ranges.
 pub step-valid : (x : Step) (M : Machine) → Fed x → MachineValid M → MachineValid (step x M .state)

@@ -2,7 +2,7 @@
 use Prim.Native.Nat.{ℕ}
 use mathlib.Core.List.{List}
 
--- registers, then a sector: a request or a reply, in a mailbox or in a slot
+-- registers, then data: a request or a reply, in a mailbox or in a slot
 abbrev pub Mailbox : Type 0
 Mailbox = List ℕ
 

@@ -14,12 +14,15 @@ abbrev pub nextSector : Fill → ℕ
 nextSector idle = 0
 nextSector (running first next end) = next
 
--- A pending transfer (01: owed): a key announced that the sector moves at an E1h request.
--- A fill's sector comes from the host, with the fill's first sector and its end; the temperature table goes to the host.
+-- A pending transfer (01: owed): a key announced that data moves at an E1h request.
+-- A fill's sector comes from the host, with the fill's first sector and its end; the temperature table goes to the host. W-202: the sector at an
+-- LBA goes to the host with its check bytes (Read Long), or comes from it with them (Write Long).
 pub data Transfer : Type 0 where
   none : Transfer
   table : Transfer
   fillData : ℕ → ℕ → Transfer
+  readLong : ℕ → Transfer
+  writeLong : ℕ → Transfer
 
 -- The last SCT command: its extended status code (01: stored code), action and function, and what it left to do.
 -- pending has a place for each port; in the base at most one is used.

@@ -4,7 +4,7 @@ use mathlib.Core.List.{List, [], _∷_, _++_, map}
 use lib.ListN.{getD}
 use Rattle.wire.specs.Layout.{Field, form}
 use Rattle.wire.specs.Parts.{zeros}
-use Rattle.model.specs.Sizes.{sectorSize, registersSize}
+use Rattle.model.specs.Sizes.{sectorSize, checkSize, registersSize, dataSize}
 use Rattle.model.specs.Device.{Fill, idle, running, Device}
 use Rattle.model.specs.Update.{withFill, withThermal}
 use Rattle.model.specs.Registers.{Registers}
@@ -21,7 +21,7 @@ use Rattle.model.specs.Buffers.{Mailbox}
 abbrev pub keyMailbox : List Field → Mailbox
 keyMailbox fields =
     form registersSize ((0, 1, 0xD6) ∷ (2, 1, 1) ∷ (4, 1, 0xE0) ∷ (6, 1, 0x4F) ∷ (8, 1, 0xC2) ∷ (11, 1, 0xB0) ∷ [])
-    ++ form sectorSize fields
+    ++ form dataSize fields
 
 abbrev pub fillKey : ℕ → ℕ → List Field
 fillKey start count = (0, 2, 2) ∷ (2, 2, 1) ∷ (4, 8, start) ∷ (12, 8, count) ∷ []
@@ -48,7 +48,7 @@ abbrev pub filling : ℕ → Volume
 filling count =
     record {
       device = withFill (running 0 1 (suc count)) 0xFFFF (powerOn (blank (suc count)));
-      disk = record { sectors = zeros (sectorSize * suc count) };
+      disk = record { sectors = zeros (sectorSize * suc count); checkArea = zeros (checkSize * suc count) };
     }
 
 -- a fill's first sector, next sector and end, 0 with no fill
@@ -78,7 +78,7 @@ firstBytes disk = map (λ (lba : ℕ). getD (disk .sectors) (sectorSize * lba) 0
 unfoldable pub evaluate : Example → List ℕ
 evaluate (key fields) =
     let c = decide (record { port = 0 }) (keyMailbox fields) fresh in
-    outcome (c .registers) (volumeAfter c (record { sectors = [] }) .device)
+    outcome (c .registers) (volumeAfter c (record { sectors = []; checkArea = [] }) .device)
 evaluate (maximum old reading) =
     let t = sample reading (withMaximum old) .thermal in t .cycleMaximum ∷ t .lifeMaximum ∷ []
 evaluate (left count n) =
@@ -97,8 +97,8 @@ starred =
     ∷ (key (fillKey 0 64), acceptedFill 0 64)
     ∷ (key (fillKey 0 65), refusedKey 0x0002)
     ∷ (key (fillKey 1 (2 ^ 64 - 1)), refusedKey 0x0002)
-    -- "Action 1: 0010h."
-    ∷ (key (wordsKey 1 1 0 0 0), refusedKey 0x0010)
+    -- "Action 1: 0010h."; W-202: "its example takes action 6"
+    ∷ (key (wordsKey 6 1 0 0 0), refusedKey 0x0010)
     -- "Timer 9 for reads: 0006h; * 10 accepted; * 0 accepted."
     ∷ (key (wordsKey 3 1 1 9 0), refusedKey 0x0006)
     ∷ (key (wordsKey 3 1 1 10 0), acceptedKey)

@@ -1,4 +1,4 @@
--- The fill: how it starts, advances by one sector, advances under a budget, and is stopped; the ordinary write of a sector.
+-- The fill: how it starts, advances by one sector, advances under a budget, and is stopped; the write of a sector.
 use mathlib.Core.Bool.{Bool, false, _&&_}
 use Prim.Native.Nat.{ℕ, zero, suc, _-_}
 use Prim.Native.Nat.{min}
@@ -8,7 +8,7 @@ use lib.Dec.{eqb}
 use Rattle.wire.specs.Choice.{if_then_else_}
 use Rattle.model.specs.Sizes.{portCount}
 use Rattle.model.specs.Device.{Fill, idle, running, Transfer, none, Device}
-use Rattle.model.specs.Disk.{Disk, withSector}
+use Rattle.model.specs.Disk.{Disk, LongSector, checked, withSector}
 use Rattle.model.specs.Update.{withFill, withPending, withInitialized}
 use Rattle.model.specs.Buffers.{Sector}
 
@@ -42,9 +42,9 @@ pub record Volume : Type 0 where
   pub device : Device
   pub disk : Disk
 
--- An ordinary write. "The Segment Initialized flag is cleared by any sector written"
-unfoldable pub writeSector : ℕ → Sector → Volume → Volume
-writeSector lba sector v = record { device = withInitialized false (v .device); disk = withSector lba sector (v .disk) }
+-- "The Segment Initialized flag is cleared by any sector written"
+unfoldable pub writeSector : ℕ → LongSector → Volume → Volume
+writeSector lba x v = record { device = withInitialized false (v .device); disk = withSector lba x (v .disk) }
 
 -- ".. and set when a fill from 0 to the last user LBA ends."
 abbrev pub wholeDisk : ℕ → ℕ → ℕ → Bool
@@ -57,11 +57,11 @@ advanced first next end d =
     then withInitialized (wholeDisk first end (d .visible)) (withFill idle 0x0000 d)
     else withFill (running first next end) runningCode d
 
--- one sector of the fill
+-- one sector of the fill, an ordinary write
 abbrev pub fillStep : Fill → Sector → Volume → Volume
 fillStep idle sector v = v
 fillStep (running first next end) sector v =
-    let w = writeSector next sector v in
+    let w = writeSector next (checked sector) v in
     record { device = advanced first (suc next) end (w .device); disk = w .disk }
 
 unfoldable pub sectorStep : Sector → Volume → Volume

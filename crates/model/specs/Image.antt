@@ -10,7 +10,8 @@ use Rattle.wire.specs.Numbers.{get}
 use Rattle.wire.specs.Parts.{part}
 use Rattle.wire.specs.Layout.{Field, form}
 use Rattle.wire.specs.Bytes.{same}
-use Rattle.model.specs.Sizes.{sectorSize, nativeLimit, historySize, missing, powerOnTimer, bodySize, trailerSize, entrySize, entryLimit, badLength, badImage, otherDisk, imageFull}
+use Rattle.model.specs.Sizes.{sectorSize, checkSize, nativeLimit, historySize, missing, powerOnTimer, bodySize, trailerSize, entrySize, entryLimit, badLength, badImage, otherDisk, imageFull}
+use Rattle.model.specs.Disk.{Disk, nativeSize}
 use Rattle.model.specs.Device.{idle, Feature, Settings, Thermal, Device}
 use Rattle.model.specs.Key.{statesNamed}
 use Rattle.model.specs.Temperature.{emptyHistory, emptyIndex, tableIndexPlace, tableHeadSize, tableBytes}
@@ -232,8 +233,12 @@ savedImage d image used = sets image used (bodyBytes (savedFrom d) ++ trailerByt
 abbrev pub wholeSectors : ℕ → Bool
 wholeSectors size = eqb (size % sectorSize) 0 && between 1 (size / sectorSize) nativeLimit
 
-abbrev pub powerOnChecks : List ℕ → List ℕ → ℕ → List Check
-powerOnChecks disk image used = (wholeSectors (length disk), badLength) ∷ imageChecks (length disk / sectorSize) image used
+-- W-202: "a check area of wrong length is answer 2"
+abbrev pub wellSized : Disk → Bool
+wellSized disk = wholeSectors (length (disk .sectors)) && eqb (length (disk .checkArea)) (checkSize * nativeSize disk)
+
+abbrev pub powerOnChecks : Disk → Image → ℕ → List Check
+powerOnChecks disk image used = (wellSized disk, badLength) ∷ imageChecks (nativeSize disk) image used
 
 abbrev pub defaultFeature : Feature
 defaultFeature = record { state = 1; persistent = false }

@@ -21,11 +21,19 @@ start k = get 8 k 4
 abbrev pub count : Sector → ℕ
 count k = get 8 k 12
 
+-- W-202: "LBA in words 2 to 5"
+abbrev pub longLba : Sector → ℕ
+longLba k = get 8 k 4
+
 -- "Last user LBA is V-1."
 abbrev pub lastLba : ℕ → ℕ
 lastLba visible = visible - 1
 
 -- ---- the checks: a row is what must hold, and the code given if it does not
+
+-- Action 1 (W-202): "functions 1 (read) and 2 (write)"; "function 000Ah, LBA 0002h after it"
+abbrev pub longChecks : ℕ → Sector → List Check
+longChecks visible k = (between 1 (word k 1) 2, 0x000A) ∷ (ltb (longLba k) visible, 0x0002) ∷ []
 
 -- Action 2: "1 pattern, 2 sector; else 0001h"; then 0002h: "Refuse when Start is above the last user LBA, or when Count is not 0 and Start + Count
 -- exceeds the visible size." (W-201; with Count 0 the last row holds after the one before it.) "Start + Count is a whole-number sum; it never wraps."
@@ -71,14 +79,15 @@ tableChecks k = (eqb (word k 1) 1, 0x0001) ∷ (eqb (word k 2) 2, 0x0011) ∷ []
 -- the remaining checks of an action
 abbrev pub actionChecks : ℕ → Sector → List Check
 actionChecks visible k =
-    if eqb (word k 0) 2 then fillChecks visible k
+    if eqb (word k 0) 1 then longChecks visible k
+    else if eqb (word k 0) 2 then fillChecks visible k
     else if eqb (word k 0) 3 then timerChecks k
     else if eqb (word k 0) 4 then featureChecks k
     else tableChecks k
 
--- The lock comes first, with 0012h; then an action that is "not 2 to 5", with 0010h.
+-- The lock comes first, with 0012h; then an action that is not 1 to 5, with 0010h: W-202: "01's check on actions becomes 1 to 5".
 unfoldable pub keyChecks : Device → Sector → List Check
-keyChecks d k = (not (d .locked), 0x0012) ∷ (between 2 (word k 0) 5, 0x0010) ∷ actionChecks (d .visible) k
+keyChecks d k = (not (d .locked), 0x0012) ∷ (between 1 (word k 0) 5, 0x0010) ∷ actionChecks (d .visible) k
 
 -- ---- what an accepted key asks for
 
@@ -87,8 +96,9 @@ pub data FeatureName : Type 0 where
   reordering : FeatureName
   logInterval : FeatureName
 
--- A fill's numbers are its first sector and its end; a pattern fill also has the sector to write.
+-- A long sector access has its direction and LBA. A fill's numbers are its first sector and its end; a pattern fill also has the sector to write.
 pub data Action : Type 0 where
+  accessLong : Direction → ℕ → Action
   fillPattern : ℕ → ℕ → Sector → Action
   fillSector : ℕ → ℕ → Action
   setTimer : Direction → ℕ → Action
@@ -106,11 +116,15 @@ patternSector k = repeated 128 (part k 20 4)
 abbrev pub fillEnd : ℕ → Sector → ℕ
 fillEnd visible k = if eqb (count k) 0 then visible else start k + count k
 
-abbrev pub timerName : ℕ → Direction
-timerName n = if eqb n 1 then read else write
+-- the timer that word 2 of a timer key names, and the function of a long sector access: 1 is read, 2 is write
+abbrev pub directionOf : ℕ → Direction
+directionOf n = if eqb n 1 then read else write
 
 abbrev pub featureName : ℕ → FeatureName
 featureName n = if eqb n 1 then writeCache else if eqb n 2 then reordering else logInterval
+
+abbrev pub longAction : Sector → Action
+longAction k = accessLong (directionOf (word k 1)) (longLba k)
 
 abbrev pub fillAction : ℕ → Sector → Action
 fillAction visible k =
@@ -118,7 +132,7 @@ fillAction visible k =
     else fillSector (start k) (fillEnd visible k)
 
 abbrev pub timerAction : Sector → Action
-timerAction k = if eqb (word k 1) 1 then setTimer (timerName (word k 2)) (word k 3) else returnTimer (timerName (word k 2))
+timerAction k = if eqb (word k 1) 1 then setTimer (directionOf (word k 2)) (word k 3) else returnTimer (directionOf (word k 2))
 
 abbrev pub featureAction : Sector → Action
 featureAction k =
@@ -128,7 +142,8 @@ featureAction k =
 
 unfoldable pub actionOf : ℕ → Sector → Action
 actionOf visible k =
-    if eqb (word k 0) 2 then fillAction visible k
+    if eqb (word k 0) 1 then longAction k
+    else if eqb (word k 0) 2 then fillAction visible k
     else if eqb (word k 0) 3 then timerAction k
     else if eqb (word k 0) 4 then featureAction k
     else sendTable

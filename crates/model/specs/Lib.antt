@@ -12,6 +12,7 @@ pub mod Fill
 pub mod Decide
 pub mod Perform
 pub mod Owner
+pub mod Repair
 pub mod Image
 pub mod ImageForm
 pub mod Machine

@@ -8,7 +8,8 @@ use Rattle.wire.specs.Choice.{if_then_else_}
 use Rattle.wire.specs.Numbers.{get}
 use Rattle.wire.specs.Parts.{part, padded}
 use Rattle.wire.specs.Layout.{Field, form}
-use Rattle.model.specs.Sizes.{sectorSize, registersSize, mailboxSize}
+use Rattle.model.specs.Sizes.{sectorSize, checkSize, registersSize, mailboxSize}
+use Rattle.model.specs.Disk.{LongSector}
 use Rattle.model.specs.Buffers.{Mailbox, Sector}
 
 pub data Direction : Type 0 where
@@ -55,6 +56,10 @@ lba48 m = get 6 (getD m 4 0 ∷ getD m 6 0 ∷ getD m 8 0 ∷ getD m 5 0 ∷ get
 -- the sector after the registers
 abbrev pub dataOf : Mailbox → Sector
 dataOf m = part m registersSize sectorSize
+
+-- W-202: that sector with the check bytes behind it; "bytes behind them are ignored on Write Long"
+abbrev pub longDataOf : Mailbox → LongSector
+longDataOf m = record { content = dataOf m; check = get checkSize m (registersSize + sectorSize) }
 
 -- "Write E0h: key sector. Read E0h: status. E1h: data."
 abbrev pub control : Direction → Request
@@ -123,6 +128,6 @@ registersFields r =
 unfoldable pub registersBytes : Registers → List ℕ
 registersBytes r = form registersSize (registersFields r)
 
--- ".. and the sector is zeros unless data is returned."
+-- ".. and the sector is zeros unless data is returned.", W-202: and so are the bytes behind the data
 unfoldable pub replyBytes : Registers → List ℕ → Mailbox
-replyBytes r sector = padded mailboxSize (registersBytes r ++ sector)
+replyBytes r bytes = padded mailboxSize (registersBytes r ++ bytes)

@@ -1,24 +1,32 @@
 -- Sizes, limits and answer numbers of document 01.
-use Prim.Native.Nat.{ℕ, _+_}
+use Prim.Native.Nat.{ℕ, _+_, _*_}
 use mathlib.Core.List.{List, [], _∷_}
 
 -- "Disk: a lent run of 1 to 65,536 sectors of 512 bytes (native size N)."
 abbrev pub sectorSize : ℕ
 sectorSize = 512
 
+-- W-202: "a lent check area, two bytes a sector"
+abbrev pub checkSize : ℕ
+checkSize = 2
+
 abbrev pub nativeLimit : ℕ
 nativeLimit = 65536
 
--- "Ports 0 to 3. A mailbox is 528 bytes: 16 of registers, then a 512-byte sector."
+-- "Ports 0 to 3."
 abbrev pub portCount : ℕ
 portCount = 4
 
+-- "16 of registers, then" the data: as many sectors as the longest transfer has. W-202: "A long transfer is two sectors, so mailboxes and slots
+-- grow to 1,040 bytes"
 abbrev pub registersSize : ℕ
 registersSize = 16
 
--- the data of a mailbox: as many bytes as the longest transfer has
+abbrev pub longSectors : ℕ
+longSectors = 2
+
 abbrev pub dataSize : ℕ
-dataSize = sectorSize
+dataSize = longSectors * sectorSize
 
 abbrev pub mailboxSize : ℕ
 mailboxSize = registersSize + dataSize

@@ -5,24 +5,26 @@ use Prim.Native.Nat.{ℕ, _+_, _*_, _^_, _≤_, _<_}
 use mathlib.Core.List.{List, [], _∷_}
 use lib.ListN.{length}
 use Rattle.wire.specs.Bytes.{Bytes}
-use Rattle.model.specs.Sizes.{sectorSize, nativeLimit, portCount, mailboxSize, historySize}
-use Rattle.model.specs.Device.{Fill, idle, running, Transfer, none, table, fillData, Feature, Command, Settings, Thermal, Device}
+use Rattle.model.specs.Sizes.{sectorSize, checkSize, nativeLimit, portCount, mailboxSize, historySize}
+use Rattle.model.specs.Device.{Fill, idle, running, Transfer, none, table, fillData, readLong, writeLong, Feature, Command, Settings, Thermal, Device}
 use Rattle.model.specs.Disk.{Disk}
 use Rattle.model.specs.Key.{highestState}
 use Rattle.model.specs.Fill.{runningCode}
 use Rattle.model.specs.Machine.{Port, empty, request, reply, Machine}
-use Rattle.model.specs.Step.{OwnerStep, lock, unlock, setVisible, sample, Step, take, serve, give, work, owner, save, powerOn}
+use Rattle.model.specs.Step.{OwnerStep, lock, unlock, setVisible, sample, Step, take, serve, give, work, owner, repair, save, powerOn}
 
 -- "if a fill runs, first ≤ next < end ≤ V"
 abbrev pub FillValid : ℕ → Fill → Type 0
 FillValid visible idle = Unit {0}
 FillValid visible (running first next end) = (first ≤ next) × (next < end) × (end ≤ visible)
 
--- "an owed fill has first < end ≤ V"
+-- "an owed fill has first < end ≤ V"; W-202: "an owed Long transfer has its LBA below V"
 abbrev pub TransferValid : ℕ → Transfer → Type 0
 TransferValid visible none = Unit {0}
 TransferValid visible table = Unit {0}
 TransferValid visible (fillData first end) = (first < end) × (end ≤ visible)
+TransferValid visible (readLong lba) = lba < visible
+TransferValid visible (writeLong lba) = lba < visible
 
 abbrev pub PendingValid : ℕ → List Transfer → Type 0
 PendingValid visible [] = Unit {0}
@@ -34,6 +36,8 @@ pendingCount [] = 0
 pendingCount (none ∷ ts) = pendingCount ts
 pendingCount (table ∷ ts) = 1 + pendingCount ts
 pendingCount (fillData first end ∷ ts) = 1 + pendingCount ts
+pendingCount (readLong lba ∷ ts) = 1 + pendingCount ts
+pendingCount (writeLong lba ∷ ts) = 1 + pendingCount ts
 
 -- "a fill and an owed transfer never coexist", and at most one transfer is pending
 abbrev pub pendingLimit : Fill → ℕ
@@ -90,9 +94,10 @@ pub record Sized (n : ℕ) (l : List ℕ) : Type 0 where
   pub size : length l ≡ n
   pub bytes : Bytes l
 
--- a disk of N sectors
-abbrev pub DiskValid : ℕ → Disk → Type 0
-DiskValid native disk = Sized (sectorSize * native) (disk .sectors)
+-- a disk of N sectors, with their check bytes
+pub record DiskValid (native : ℕ) (disk : Disk) : Type 0 where
+  pub sectorsValid : Sized (sectorSize * native) (disk .sectors)
+  pub checkAreaValid : Sized (checkSize * native) (disk .checkArea)
 
 -- a fill has its sector, and without a fill there is none
 abbrev pub SectorValid : Fill → List ℕ → Type 0
@@ -117,13 +122,14 @@ OwnerFed (setVisible v) = Unit {0}
 OwnerFed (sample reading) = reading < 256
 
 -- What a step is fed must be bytes: the mailbox of a take, a reading, the image of a power-on. The machine keeps nothing of a give's mailbox
--- or a save's image, so nothing is required of them; ports, counts, V and used lengths are any numbers.
+-- or a save's image, so nothing is required of them; ports, counts, V, LBAs and used lengths are any numbers.
 abbrev pub Fed : Step → Type 0
 Fed (take p m) = Bytes m
 Fed (serve s) = Unit {0}
 Fed (give p m) = Unit {0}
 Fed (work n) = Unit {0}
 Fed (owner x) = OwnerFed x
+Fed (repair lba) = Unit {0}
 Fed (save image used) = Unit {0}
 Fed (powerOn image used) = Bytes image
 

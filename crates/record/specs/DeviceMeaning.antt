@@ -5,7 +5,7 @@ use Prim.Native.Nat.{ℕ, _+_}
 use Rattle.wire.specs.Choice.{if_then_else_}
 use Rattle.wire.specs.Parts.{part}
 use Rattle.model.specs.Sizes.{historySize}
-use Rattle.model.specs.Device.{Fill, idle, running, Transfer, none, table, fillData, Feature, Command, Settings, Thermal, Device}
+use Rattle.model.specs.Device.{Fill, idle, running, Transfer, none, table, fillData, readLong, writeLong, Feature, Command, Settings, Thermal, Device}
 use Rattle.model.specs.Temperature.{tableHeadSize, emptyHistory}
 use Rattle.model.specs.Registers.{Direction, read, write}
 use Rattle.model.specs.Key.{FeatureName, writeCache, reordering, logInterval}
@@ -13,7 +13,7 @@ use Rattle.store.specs.Areas.{headSize}
 use Rattle.store.specs.Record.{Stage, empty, held, answered, Contents}
 use Rattle.record.specs.declared.device as code
 use Rattle.record.specs.declared.device.Stage.the-variants.{Empty, Held, Answered}
-use Rattle.record.specs.declared.device.Transfer.the-variants.{None, Table, FillData}
+use Rattle.record.specs.declared.device.Transfer.the-variants.{None, Table, FillData, ReadLong, WriteLong}
 use Rattle.record.specs.declared.device.Fill.the-variants.{Idle, Running}
 use Rattle.record.specs.declared.names as names
 use Rattle.record.specs.declared.names.Direction.the-variants.{Read, Write}
@@ -28,6 +28,8 @@ abbrev pub asTransfer : code.Transfer.Transfer → Transfer
 asTransfer None = none
 asTransfer Table = table
 asTransfer (FillData first end) = fillData first end
+asTransfer (ReadLong lba) = readLong lba
+asTransfer (WriteLong lba) = writeLong lba
 
 abbrev pub asFill : code.Fill.Fill → Fill
 asFill Idle = idle

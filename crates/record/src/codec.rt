@@ -53,6 +53,12 @@ fn transfer_of(kind: u8, first: u64, end: u64) -> Transfer
     if kind == port::FILL_DATA {
         return Transfer::FillData(first, end);
     }
+    if kind == port::READ_LONG {
+        return Transfer::ReadLong(first);
+    }
+    if kind == port::WRITE_LONG {
+        return Transfer::WriteLong(first);
+    }
     Transfer::None
 }
 

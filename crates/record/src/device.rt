@@ -13,11 +13,13 @@ pub enum Stage {
 }
 
 // A pending transfer, 01's owed transfer: the temperature table to the host, or a fill's sector from it, with the fill's first
-// sector and its end (the first sector after it).
+// sector and its end (the first sector after it). W-202: the sector at an LBA with its check bytes, to the host or from it.
 pub enum Transfer {
     None,
     Table,
     FillData(u64, u64),
+    ReadLong(u64),
+    WriteLong(u64),
 }
 
 // No fill, or one that runs: its first sector, the next to write, and its end.
@@ -74,7 +76,7 @@ pub struct Thermal {
     pub minutes: u16,
 }
 
-// "four slots of 528": a struct for each.
+// "four slots of 528" (1,040 since W-202): a struct for each.
 pub struct Device {
     pub native: u64,
     pub visible: u64,

@@ -2,23 +2,23 @@
 use layout::HISTORY_U16;
 use layout::NATIVE_LIMIT;
 use layout::field;
+use layout::port;
 use layout::sct;
 use layout::table;
 use record::Fill;
 use record::Settings;
-use record::Transfer;
 ghost use mathlib.Core.Path.{_≡_};
 ghost use mathlib.Core.Bool.{_&&_};
 ghost use mathlib.Core.List.{[], _∷_};
-ghost use Prim.Native.Nat.{_≤_};
+ghost use Prim.Native.Nat.{ℕ, _≤_, _<_};
 ghost use lib.ListN.{length};
 ghost use lib.Dec.{leb};
 ghost use Rattle.model.specs.Key.{statesNamed};
 ghost use Rattle.model.specs.Valid.{pendingCount, pendingLimit};
 ghost use Rattle.store.specs.Areas.{recordSize};
-ghost use Rattle.store.specs.Record.{decode};
+ghost use Rattle.store.specs.Record.{transferOf, transferAt, decode};
 ghost use Rattle.store.specs.Sound.{fillSound, transferSound, pendingSound, commandSound, timerSound, settingsSound, deviceSound};
-ghost use Rattle.record.specs.DeviceMeaning.{asTransfer, asFill, asSettings};
+ghost use Rattle.record.specs.DeviceMeaning.{asFill, asSettings};
 
 // "if a fill runs, first ≤ next < end ≤ V"; "the stored code is FFFFh exactly while a fill runs"
 fn fill_sound(visible: u64, code: u16, fill: Fill) -> bool
@@ -32,27 +32,44 @@ fn fill_sound(visible: u64, code: u16, fill: Fill) -> bool
     }
 }
 
-// "an owed fill has first < end ≤ V"
-fn transfer_sound(visible: u64, t: Transfer) -> bool
-    ensures { λ res. ⌜ res ≡ transferSound visible (asTransfer t) ⌝ }
+// "an owed fill has first < end ≤ V"; W-202: "an owed Long transfer has its LBA below V". A transfer is checked by its numbers: with a case
+// for each kind the built code would have a table of jumps, and more stack.
+fn transfer_sound(visible: u64, kind: u8, first: u64, end: u64) -> bool
+    ensures { λ res. ⌜ res ≡ transferSound visible (transferOf kind first end) ⌝ }
 {
-    match t {
-        Transfer::None => true,
-        Transfer::Table => true,
-        Transfer::FillData(first, end) => (first < end) & (end <= visible),
-    }
+    ((kind != port::FILL_DATA) | ((first < end) & (end <= visible)))
+        & (((kind != port::READ_LONG) & (kind != port::WRITE_LONG)) | (first < visible))
 }
 
 // 1 for a transfer that is pending, else 0.
-fn count_of(t: Transfer) -> u8
-    ensures { λ res. ⌜ res ≡ pendingCount (asTransfer t ∷ []) ⌝ }
+fn count_of(kind: u8) -> u8
+    ensures { λ res. ⌜ ((first end : ℕ) → res ≡ pendingCount (transferOf kind first end ∷ [])) ⌝ }
     ensures small { λ res. ⌜ res ≤ 1 ⌝ }
 {
-    match t {
-        Transfer::None => 0,
-        Transfer::Table => 1,
-        Transfer::FillData(_, _) => 1,
-    }
+    wire::bit_of((port::TABLE <= kind) & (kind <= port::WRITE_LONG))
+}
+
+// What port i has pending.
+fn port_sound(device: &[u8], i: usize, visible: u64) -> bool
+    requires { ⌜ (length (now device) ≡ recordSize) × (i < 4) ⌝ }
+    ensures { λ res. ⌜ res ≡ transferSound visible (transferAt (now (device .entry)) i) ⌝ }
+{
+    let at = field::PORTS_AT + port::SIZE * i;
+    transfer_sound(
+        visible,
+        wire::u8_at(device, at + port::TRANSFER_AT),
+        wire::u64_at(device, at + port::FIRST_AT),
+        wire::u64_at(device, at + port::END_AT),
+    )
+}
+
+// How many transfers port i has pending, 0 or 1.
+fn port_count(device: &[u8], i: usize) -> u8
+    requires { ⌜ (length (now device) ≡ recordSize) × (i < 4) ⌝ }
+    ensures { λ res. ⌜ res ≡ pendingCount (transferAt (now (device .entry)) i ∷ []) ⌝ }
+    ensures small { λ res. ⌜ res ≤ 1 ⌝ }
+{
+    count_of(wire::u8_at(device, field::PORTS_AT + port::SIZE * i + port::TRANSFER_AT))
 }
 
 // How many transfers may be pending with this fill.
@@ -71,13 +88,14 @@ fn pending_sound(device: &[u8], visible: u64, limit: u8) -> bool
     requires { ⌜ length (now device) ≡ recordSize ⌝ }
     ensures { λ res. ⌜ res ≡ (pendingSound visible (decode (now (device .entry)) .device .command .pending) && leb (pendingCount (decode (now (device .entry)) .device .command .pending)) limit) ⌝ }
 {
-    let a = record::transfer_at(device, 0);
-    let b = record::transfer_at(device, 1);
-    let c = record::transfer_at(device, 2);
-    let d = record::transfer_at(device, 3);
-    (transfer_sound(visible, a)
-        & (transfer_sound(visible, b) & (transfer_sound(visible, c) & transfer_sound(visible, d))))
-        & (count_of(a) + count_of(b) + count_of(c) + count_of(d) <= limit)
+    (port_sound(device, 0, visible)
+        & (port_sound(device, 1, visible)
+            & (port_sound(device, 2, visible) & port_sound(device, 3, visible))))
+        & (port_count(device, 0)
+            + port_count(device, 1)
+            + port_count(device, 2)
+            + port_count(device, 3)
+            <= limit)
 }
 
 // The last command, with what the ports have pending.

@@ -8,7 +8,7 @@ ghost use lib.ListN.{length};
 ghost use lib.Dec.{leb};
 ghost use Rattle.wire.specs.Numbers.{get};
 ghost use Rattle.store.specs.Areas.{recordSize};
-ghost use Rattle.store.specs.RecordTests.{spareRuns, zeroRuns, flagsNamed, fillNamed, slotNamed};
+ghost use Rattle.store.specs.RecordTests.{spareRuns, zeroRuns, flagsNamed, fillNamed, transferNamed, slotNamed};
 
 // The spare bytes of the four ports.
 const PORT_0_SPARE_AT: usize = field::PORTS_AT + port::SPARE_AT;
@@ -69,7 +69,16 @@ pub fn fill_named(device: &[u8]) -> bool
     (kind == 1) | ((kind == 0) & (first == 0) & ((next == 0) & (end == 0)))
 }
 
-// Slot i: a named stage and kind; the transfer's numbers are 0 unless it is a fill's.
+// A named kind of transfer; none and the table have no first sector, and only a fill has an end: their numbers are 0.
+fn transfer_named(kind: u8, first: u64, end: u64) -> bool
+    ensures { λ res. ⌜ res ≡ transferNamed kind first end ⌝ }
+{
+    (kind <= port::WRITE_LONG)
+        & ((port::FILL_DATA <= kind) | (first == 0))
+        & ((kind == port::FILL_DATA) | (end == 0))
+}
+
+// Slot i: a named stage, and its transfer.
 fn slot_named(device: &[u8], i: usize) -> bool
     requires { ⌜ (length (now device) ≡ recordSize) × (i < 4) ⌝ }
     ensures { λ res. ⌜ res ≡ slotNamed (now (device .entry)) i ⌝ }
@@ -79,8 +88,7 @@ fn slot_named(device: &[u8], i: usize) -> bool
     let kind = wire::u8_at(device, at + port::TRANSFER_AT);
     let first = wire::u64_at(device, at + port::FIRST_AT);
     let end = wire::u64_at(device, at + port::END_AT);
-    (stage <= port::ANSWERED)
-        & ((kind == port::FILL_DATA) | ((kind <= port::TABLE) & (first == 0) & (end == 0)))
+    (stage <= port::ANSWERED) & transfer_named(kind, first, end)
 }
 
 pub fn slots_named(device: &[u8]) -> bool

@@ -13,6 +13,8 @@ pub fn transfer_kind(t: Transfer) -> u8
         Transfer::None => port::NO_TRANSFER,
         Transfer::Table => port::TABLE,
         Transfer::FillData(_, _) => port::FILL_DATA,
+        Transfer::ReadLong(_) => port::READ_LONG,
+        Transfer::WriteLong(_) => port::WRITE_LONG,
     }
 }
 
@@ -23,6 +25,8 @@ pub fn transfer_first(t: Transfer) -> u64
         Transfer::None => 0,
         Transfer::Table => 0,
         Transfer::FillData(first, _) => first,
+        Transfer::ReadLong(lba) => lba,
+        Transfer::WriteLong(lba) => lba,
     }
 }
 
@@ -33,6 +37,8 @@ pub fn transfer_end(t: Transfer) -> u64
         Transfer::None => 0,
         Transfer::Table => 0,
         Transfer::FillData(_, end) => end,
+        Transfer::ReadLong(_) => 0,
+        Transfer::WriteLong(_) => 0,
     }
 }
 

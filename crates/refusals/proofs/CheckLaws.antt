@@ -1,19 +1,21 @@
--- What holds for the buffers when the checks of take, serve, give and work pass.
+-- What holds for the buffers when the checks of take, serve, give, work and repair pass.
 use mathlib.Core.Path.{_≡_, refl, sym, _∙_}
 use mathlib.Core.Bool.{Bool, true, false}
 use mathlib.Core.List.{List, [], _∷_, _++_}
 use Prim.Native.Nat.{ℕ, _*_, _≤_, _<_}
 use native.Mathlib.Omega.{arith}
 use lib.ListN.{length}
+use lib.Dec.{eqb}
 use borrow.Author.Tests.{eqb-true, ltb-true}
 use Rattle.wire.specs.Choice.{if_then_else_, Check, firstFailed, ifPassed, Guarded, attempt}
 use Rattle.wire.specs.Bytes.{Bytes}
-use Rattle.wire.proofs.ChoiceLaws.{Numbered, passed-not, attempt-refused, attempt-done, all-pass, pass-all}
-use Rattle.model.specs.Sizes.{sectorSize, nativeLimit, portCount, mailboxSize}
+use Rattle.wire.proofs.ChoiceLaws.{and-left, and-right, Numbered, passed-not, attempt-refused, attempt-done, all-pass, pass-all}
+use Rattle.model.specs.Sizes.{sectorSize, checkSize, nativeLimit, portCount, mailboxSize}
+use Rattle.model.specs.Disk.{Disk, HasSize}
 use Rattle.store.specs.Areas.{recordSize, privateSize}
 use Rattle.store.specs.Record.{Stage, held, decode}
 use Rattle.store.specs.Sound.{sound}
-use Rattle.store.specs.Entries.{goodPort, inStage, mailboxChecks, serveChecks, workChecks}
+use Rattle.store.specs.Entries.{hasSectors, goodPort, inStage, mailboxChecks, serveChecks, workChecks, repairChecks}
 use Rattle.store.proofs.SoundLaws.{sound-parts, sound-valid}
 
 -- "N ≤ 65,536"
@@ -53,22 +55,34 @@ mailbox-passed needed r p m a e z =
       port = ltb-true p portCount (all .1 .1 .1 .0);
     }
 
-pub record DiskPassed (r a disk : List ℕ) : Type 0 where
+-- the record is sound, and the disk has its N sectors
+pub record DiskPassed (r : List ℕ) (disk : Disk) : Type 0 where
   pub isSound : sound r ≡ true
-  pub areaSized : length a ≡ privateSize
-  pub diskSized : length disk ≡ sectorSize * decode r .device .native
+  pub diskSized : HasSize (decode r .device .native) disk
 
-pub work-passed : (r a disk : List ℕ) {n : ℕ} → n ≡ firstFailed (workChecks r a disk) → n ≡ 0 → DiskPassed r a disk
+-- a disk that passes its test has the size
+sectors-sized : (n : ℕ) (disk : Disk) → hasSectors n disk ≡ true → HasSize n disk
+sectors-sized n disk e = (
+  eqb-true (length (disk .sectors)) (sectorSize * n) (and-left _ _ e),
+  eqb-true (length (disk .checkArea)) (checkSize * n) (and-right (eqb (length (disk .sectors)) (sectorSize * n)) _ e),
+)
+
+pub work-passed : (r a : List ℕ) (disk : Disk) {n : ℕ} → n ≡ firstFailed (workChecks r a disk) → n ≡ 0 → DiskPassed r disk × (length a ≡ privateSize)
 work-passed r a disk e z =
-    let all = all-pass 4 (workChecks r a disk) (omega arith) (sym e ∙ z) in
-    record {
-      isSound = all .0;
-      areaSized = eqb-true (length a) privateSize (all .1 .0);
-      diskSized = eqb-true (length disk) (sectorSize * decode r .device .native) (all .1 .1 .0);
-    }
+    let all = all-pass 4 (workChecks r a disk) (omega arith) (sym e ∙ z) in (
+      record { isSound = all .0; diskSized = sectors-sized (decode r .device .native) disk (all .1 .1 .0) },
+      eqb-true (length a) privateSize (all .1 .0),
+    )
+
+pub repair-passed : (r : List ℕ) (disk : Disk) (lba : ℕ) {n : ℕ} → n ≡ firstFailed (repairChecks r disk lba) → n ≡ 0 → DiskPassed r disk × (lba < decode r .device .visible)
+repair-passed r disk lba e z =
+    let all = all-pass 5 (repairChecks r disk lba) (omega arith) (sym e ∙ z) in (
+      record { isSound = all .0; diskSized = sectors-sized (decode r .device .native) disk (all .1 .0) },
+      ltb-true lba (decode r .device .visible) (all .1 .1 .0),
+    )
 
 -- serve's checks are work's, then those of the slot ..
-module _ (r : List ℕ) (p : ℕ) (a disk : List ℕ) (n : ℕ) where
+module _ (r : List ℕ) (p : ℕ) (a : List ℕ) (disk : Disk) (n : ℕ) where
   abbrev slotChecks : List Check
   slotChecks = goodPort p ∷ inStage held r p ∷ []
 
@@ -85,7 +99,8 @@ module _ (r : List ℕ) (p : ℕ) (a disk : List ℕ) (n : ℕ) where
   serve-second e z = sym (both ∙ attempt-done workThenSlot n e z)
 
 -- .. so if they pass, work's do
-pub serve-passed : (r : List ℕ) (p : ℕ) (a disk : List ℕ) {n : ℕ} → n ≡ firstFailed (serveChecks r p a disk) → n ≡ 0 → DiskPassed r a disk × (p < portCount)
+pub serve-passed : (r : List ℕ) (p : ℕ) (a : List ℕ) (disk : Disk) {n : ℕ} → n ≡ firstFailed (serveChecks r p a disk) → n ≡ 0 → DiskPassed r disk × (length a ≡ privateSize) × (p < portCount)
 serve-passed r p a disk e z =
     let all = all-pass 4 (serveChecks r p a disk) (omega arith) (sym e ∙ z) in
-    (work-passed r a disk refl (pass-all (workChecks r a disk) (all .0, (all .1 .0, (all .1 .1 .0, tt)))), ltb-true p portCount (all .1 .1 .1 .0))
+    let work = work-passed r a disk refl (pass-all (workChecks r a disk) (all .0, (all .1 .0, (all .1 .1 .0, tt)))) in
+    (work .0, work .1, ltb-true p portCount (all .1 .1 .1 .0))

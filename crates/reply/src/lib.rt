@@ -3,7 +3,6 @@ mod registers;
 
 pub use registers::Reply;
 pub use registers::good;
-pub use registers::put_registers;
 pub use registers::put_reply;
 pub use registers::refused;
 pub use registers::refused_with;

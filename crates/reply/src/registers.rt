@@ -61,7 +61,7 @@ pub fn refused_with(code: u16) -> Reply
 }
 
 // Writes the registers of a reply. "In a reply every byte not named is 0"
-pub fn put_registers(area: &mut [u8], at: usize, r: Reply)
+fn put_registers(area: &mut [u8], at: usize, r: Reply)
     requires { ⌜ at + mailboxSize ≤ length (now area) ⌝ }
     ensures { λ _. ⌜ now (area .exit) ≡ sets (now (area .entry)) at (registersBytes (asRegisters r)) ⌝ }
 {

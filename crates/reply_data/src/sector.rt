@@ -1,21 +1,25 @@
-// How the replies that carry data are written: the status sector (Table 11 of document 001), the temperature table, a sector of the disk.
+// How the replies that carry data are written: the status sector (Table 11 of document 001), the temperature table, a sector of the disk, a long sector.
+use layout::CHECK_U64;
 use layout::REGISTERS;
 use layout::SECTOR;
 use layout::SECTOR_U64;
 use layout::TABLE_AT;
+use layout::ata;
 use layout::status;
 use record::Command;
 use record::Device;
 use record::Fill;
 use record::Thermal;
 use reply::Reply;
-use reply::put_registers;
 use reply::put_reply;
+use reply::refused;
 use runs::copy_part;
+use sector_check::check_of;
 use wire::put_u8;
 use wire::put_u16;
 use wire::put_u32;
 use wire::put_u64;
+use wire::u16_at;
 ghost use mathlib.Core.Path.{_≡_};
 ghost use Prim.Native.Nat.{ℕ, _+_, _*_, _≤_};
 ghost use mathlib.Core.List.{List, []};
@@ -23,8 +27,10 @@ ghost use lib.ListN.{length};
 ghost use lib.Seq.{sets};
 ghost use Rattle.wire.specs.Parts.{part};
 ghost use Rattle.wire.specs.Layout.{stores, placed};
-ghost use Rattle.model.specs.Sizes.{sectorSize, mailboxSize};
+ghost use Rattle.model.specs.Sizes.{sectorSize, checkSize, mailboxSize};
+ghost use Rattle.model.specs.Disk.{diskOf, sectorAt};
 ghost use Rattle.model.specs.Registers.{replyBytes};
+ghost use Rattle.model.specs.Perform.{readReply, longBytes};
 ghost use Rattle.model.specs.Status.{driveState, statusHead, statusCommand, statusTemperatures, statusSector};
 ghost use Rattle.store.specs.Areas.{recordSize, headSize};
 ghost use Rattle.record.specs.DeviceMeaning.{asFill, asThermal, asCommand, asDevice};
@@ -97,16 +103,16 @@ pub fn put_table(area: &mut [u8], at: usize, reply: Reply, device: &[u8])
     requires { ⌜ (at + mailboxSize ≤ length (now area)) × (recordSize ≤ length (now device)) ⌝ }
     ensures { λ _. ⌜ now (area .exit) ≡ sets (now (area .entry)) at (replyBytes (asRegisters reply) (part (now (device .entry)) headSize sectorSize)) ⌝ }
 {
-    put_registers(area, at, reply);
+    put_reply(area, at, reply);
     copy_part(area, at + REGISTERS, device, TABLE_AT, SECTOR);
 }
 
 // The sector of the disk at an LBA.
-pub fn put_sector(area: &mut [u8], at: usize, reply: Reply, disk: &[u8], lba: u64)
+fn put_sector(area: &mut [u8], at: usize, reply: Reply, disk: &[u8], lba: u64)
     requires { ⌜ (at + mailboxSize ≤ length (now area)) × (sectorSize * lba + sectorSize ≤ length (now disk)) ⌝ }
     ensures { λ _. ⌜ now (area .exit) ≡ sets (now (area .entry)) at (replyBytes (asRegisters reply) (part (now (disk .entry)) (sectorSize * lba) sectorSize)) ⌝ }
 {
-    put_registers(area, at, reply);
+    put_reply(area, at, reply);
     copy_part(
         area,
         at + REGISTERS,
@@ -114,4 +120,27 @@ pub fn put_sector(area: &mut [u8], at: usize, reply: Reply, disk: &[u8], lba: u6
         (SECTOR_U64 * lba) as usize,
         SECTOR,
     );
+}
+
+// The reply to a read of the sector at an LBA: "a read of a sector whose check differs has Error 40h".
+pub fn put_read(area: &mut [u8], at: usize, reply: Reply, disk: &[u8], check_area: &[u8], lba: u64)
+    requires { ⌜ (at + mailboxSize ≤ length (now area)) × (sectorSize * lba + sectorSize ≤ length (now disk)) × (checkSize * lba + checkSize ≤ length (now «check_area»)) ⌝ }
+    ensures { λ _. ⌜ now (area .exit) ≡ sets (now (area .entry)) at (readReply (asRegisters reply) (sectorAt lba (diskOf (now (disk .entry)) (now («check_area» .entry))))) ⌝ }
+{
+    let stored = u16_at(check_area, (CHECK_U64 * lba) as usize);
+    if stored != check_of(disk, (SECTOR_U64 * lba) as usize) {
+        put_reply(area, at, refused(ata::ERROR_UNCORRECTABLE));
+        return;
+    }
+    put_sector(area, at, reply, disk, lba);
+}
+
+// The reply of Read Long: "Read Long sends the two check bytes as stored, zeros behind".
+pub fn put_long(area: &mut [u8], at: usize, reply: Reply, disk: &[u8], check_area: &[u8], lba: u64)
+    requires { ⌜ (at + mailboxSize ≤ length (now area)) × (sectorSize * lba + sectorSize ≤ length (now disk)) × (checkSize * lba + checkSize ≤ length (now «check_area»)) ⌝ }
+    ensures { λ _. ⌜ now (area .exit) ≡ sets (now (area .entry)) at (replyBytes (asRegisters reply) (longBytes (sectorAt lba (diskOf (now (disk .entry)) (now («check_area» .entry)))))) ⌝ }
+{
+    put_sector(area, at, reply, disk, lba);
+    let stored = u16_at(check_area, (CHECK_U64 * lba) as usize);
+    put_u16(area, at + REGISTERS + SECTOR, stored);
 }

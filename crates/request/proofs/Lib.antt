@@ -1,2 +1,3 @@
--- Laws of the bytes that are read from a slot.
+-- Laws of a request: its registers as bytes (RequestBytes), the direction of a transfer (DirectionLaws).
 pub mod RequestBytes
+pub mod DirectionLaws

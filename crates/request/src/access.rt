@@ -1,32 +1,38 @@
 // The checks of a data transfer (E1h) and of an access to one sector (24h and 34h).
+use layout::LONG_SECTORS_U16;
 use layout::ata;
 use layout::sct;
 use record::Direction;
 use record::Transfer;
 ghost use mathlib.Core.Path.{_≡_};
 ghost use Rattle.wire.specs.Choice.{firstFailed};
-ghost use Rattle.model.specs.Device.{Device};
+ghost use Rattle.model.specs.Device.{table, Device};
 ghost use Rattle.model.specs.Decide.{moves, sectorsOf, dataChecks, sectorChecks};
 ghost use Rattle.record.specs.DeviceMeaning.{asTransfer, asDirection};
 
-// Whether the pending transfer has this direction: the table is read, a fill's sector is written.
+fn is_read(dir: Direction) -> bool
+    ensures { λ r. ⌜ r ≡ moves (asDirection dir) table ⌝ }
+{
+    match dir {
+        Direction::Read => true,
+        Direction::Write => false,
+    }
+}
+
+// Whether the pending transfer has this direction: the table and Read Long are read, a fill's sector and Write Long are written.
 fn moves(dir: Direction, pending: Transfer) -> bool
     ensures { λ r. ⌜ r ≡ moves (asDirection dir) (asTransfer pending) ⌝ }
 {
     match pending {
         Transfer::None => false,
-        Transfer::Table => match dir {
-            Direction::Read => true,
-            Direction::Write => false,
-        },
-        Transfer::FillData(_, _) => match dir {
-            Direction::Read => false,
-            Direction::Write => true,
-        },
+        Transfer::Table => is_read(dir),
+        Transfer::FillData(_, _) => !is_read(dir),
+        Transfer::ReadLong(_) => is_read(dir),
+        Transfer::WriteLong(_) => !is_read(dir),
     }
 }
 
-// The number of sectors that a transfer moves.
+// The number of sectors that a transfer moves: "A long transfer is two sectors".
 fn sectors_of(pending: Transfer) -> u16
     ensures { λ r. ⌜ r ≡ sectorsOf (asTransfer pending) ⌝ }
 {
@@ -34,10 +40,12 @@ fn sectors_of(pending: Transfer) -> u16
         Transfer::None => 0,
         Transfer::Table => 1,
         Transfer::FillData(_, _) => 1,
+        Transfer::ReadLong(_) => LONG_SECTORS_U16,
+        Transfer::WriteLong(_) => LONG_SECTORS_U16,
     }
 }
 
-// "E1h is judged: lock 0012h; .. 000Bh; count not 1 0003h." 0 if nothing fails.
+// "E1h is judged: lock 0012h; .. 000Bh; count not 1 0003h." W-202: "E1h wants count 2 for it and 1 for the others." 0 if nothing fails.
 pub fn data_code(locked: bool, dir: Direction, count: u16, pending: Transfer) -> u16
     ensures { λ r. ⌜ r ≡ firstFailed (dataChecks locked (asDirection dir) count (asTransfer pending)) ⌝ }
 {

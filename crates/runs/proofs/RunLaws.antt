@@ -1,20 +1,18 @@
 -- Laws of runs with one more byte at the end, as a loop over their bytes builds them.
 use mathlib.Core.Path.{_≡_, sym, ap, _∙_}
 use mathlib.Core.Bool.{_&&_, and-true, and-assoc}
-use Prim.Native.Nat.{ℕ, suc, _+_, _*_, _≤_, _<_}
-use native.Mathlib.Nat.{mul-comm}
+use Prim.Native.Nat.{ℕ, suc, _+_, _≤_, _<_}
 use native.Mathlib.Numerals.{add-one}
 use native.Mathlib.Omega.{arith}
 use mathlib.Core.List.{List, [], _∷_, _++_}
 use lib.ListN.{length, getD, set, drop, length-drop, length-replicate, replicate, replicate-append-replicate}
-use lib.Seq.{sets, take-suc, getD-drop, ext-getD}
+use lib.Seq.{sets, take-suc, getD-drop}
 use lib.Dec.{eqb}
-use Rattle.wire.specs.Numbers.{le, get, put}
-use Rattle.wire.specs.Parts.{part, repeated}
+use Rattle.wire.specs.Numbers.{get, put}
+use Rattle.wire.specs.Parts.{part}
 use Rattle.wire.specs.Bytes.{Bytes, same, allZero}
-use Rattle.wire.proofs.NumbersLaws.{length-le}
-use Rattle.wire.proofs.FormUnique.{le-get}
-use Rattle.wire.proofs.PartsLaws.{getD-part, length-part, length-repeated, repeated-snoc, sets-append}
+use Rattle.wire.proofs.FormUnique.{le-part}
+use Rattle.wire.proofs.PartsLaws.{length-part, sets-append}
 
 part-snoc : (l : List ℕ) (b j : ℕ) → b + j < length l → part l b (suc j) ≡ part l b j ++ (getD l (b + j) 0 ∷ [])
 part-snoc l b j h =
@@ -33,18 +31,6 @@ pub replicate-more : (d : List ℕ) (at j a : ℕ) → set (sets d at (replicate
 replicate-more d at j a =
     sets-snoc d (replicate j a) at j a (length-replicate j a)
     ∙ ap (sets d at) (replicate-append-replicate j 1 a ∙ ap (λ (n : ℕ). replicate n a) (add-one j))
-
-pub repeat-more : (d p : List ℕ) (at size k : ℕ) → length p ≡ size → sets (sets d at (repeated k p)) (at + size * k) p ≡ sets d at (repeated (suc k) p)
-repeat-more d p at size k e =
-    let far : size * k ≡ length (repeated k p) = rw (length-repeated k p, e) (mul-comm size k) in
-    rw far (sym (sets-append (repeated k p) p d at)) ∙ ap (sets d at) (repeated-snoc k p)
-
--- a number's bytes are the bytes that it was read from
-le-part : (k : ℕ) (l : List ℕ) (at : ℕ) → Bytes l → at + k ≤ length l → le k (get k l at) ≡ part l at k
-le-part k l at b h =
-    ext-getD 0 (le k (get k l at)) (part l at k) (length-le k (get k l at) ∙ sym (length-part l at k h)) (λ j q.
-    let below : j < k = rw (length-le k (get k l at)) at q in
-    le-get k l at j b below ∙ sym (getD-part l at k j below))
 
 pub put-read : (k : ℕ) (d l : List ℕ) (to from : ℕ) → Bytes l → from + k ≤ length l → put k d to (get k l from) ≡ sets d to (part l from k)
 unfolding put

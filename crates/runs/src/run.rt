@@ -1,10 +1,12 @@
 // Operations on runs of bytes: copy, set, compare and repeat.
+use wire::put_u16;
 use wire::put_u32;
 use wire::u32_at;
 ghost use mathlib.Core.Path.{_≡_};
 ghost use Prim.Native.Nat.{_+_, _*_, _≤_};
 ghost use lib.ListN.{length, replicate};
 ghost use lib.Seq.{sets};
+ghost use Rattle.wire.specs.Numbers.{le};
 ghost use Rattle.wire.specs.Parts.{part, zeros, repeated};
 ghost use Rattle.wire.specs.Bytes.{same, allZero};
 
@@ -80,8 +82,22 @@ pub fn same_part(a: &[u8], at: usize, b: &[u8], from: usize, n: usize) -> bool
     all
 }
 
-// The number of bytes of a u32.
+// The number of bytes of a u16 and of a u32.
+const HALF: usize = 2;
+
 const WORD: usize = 4;
+
+// Writes the two bytes of a number the given number of times, one after the other, from `at`.
+pub fn repeat_u16(s: &mut [u8], at: usize, n: u16, times: usize)
+    requires { ⌜ at + 2 * times ≤ length (now s) ⌝ }
+    ensures { λ _. ⌜ now (s .exit) ≡ sets (now (s .entry)) at (repeated times (le 2 n)) ⌝ }
+{
+    let mut k = 0;
+    while k < times {
+        put_u16(s, at + HALF * k, n);
+        k += 1;
+    }
+}
 
 // Writes the four bytes from `from` the given number of times, one after the other, from `to`.
 pub fn repeat_within(s: &mut [u8], to: usize, from: usize, times: usize)

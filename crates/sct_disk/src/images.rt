@@ -1,5 +1,6 @@
 // The steps with a saved image: save and power-on.
 ghost use mathlib.Core.Path.{_≡_};
+ghost use Rattle.model.specs.Disk.{diskOf};
 ghost use Rattle.store.specs.Entries.{saveBytes, powerOnBytes};
 
 // "A save adds one entry behind the used length; other bytes stay."
@@ -17,12 +18,13 @@ pub extern "C" fn sct_power_on(
     device: &mut [u8],
     area: &mut [u8],
     disk: &[u8],
+    check_area: &[u8],
     image: &[u8],
     used: u64,
 ) -> u32
-    ensures { λ n. ⌜ n ≡ powerOnBytes (now (device .entry)) (now (area .entry)) (now (disk .entry)) (now (image .entry)) used .answer ⌝ }
-    ensures device { λ _. ⌜ now (device .exit) ≡ powerOnBytes (now (device .entry)) (now (area .entry)) (now (disk .entry)) (now (image .entry)) used .recordArea ⌝ }
-    ensures area { λ _. ⌜ now (area .exit) ≡ powerOnBytes (now (device .entry)) (now (area .entry)) (now (disk .entry)) (now (image .entry)) used .privateArea ⌝ }
+    ensures { λ n. ⌜ n ≡ powerOnBytes (now (device .entry)) (now (area .entry)) (diskOf (now (disk .entry)) (now («check_area» .entry))) (now (image .entry)) used .answer ⌝ }
+    ensures device { λ _. ⌜ now (device .exit) ≡ powerOnBytes (now (device .entry)) (now (area .entry)) (diskOf (now (disk .entry)) (now («check_area» .entry))) (now (image .entry)) used .recordArea ⌝ }
+    ensures area { λ _. ⌜ now (area .exit) ≡ powerOnBytes (now (device .entry)) (now (area .entry)) (diskOf (now (disk .entry)) (now («check_area» .entry))) (now (image .entry)) used .privateArea ⌝ }
 {
-    image_steps::power_on(device, area, disk, image, used)
+    image_steps::power_on(device, area, disk, check_area, image, used)
 }

@@ -1,8 +1,10 @@
-// The ten steps that the firmware calls: those of a port (ports.rt), work (works.rt), those of the owner (owner.rt), and those with a saved image
-// (images.rt). The mailbox is a parameter of sct_take and sct_give only.
+// The eleven steps that the firmware calls: those of a port (ports.rt), work (works.rt), those of the owner (owner.rt, repairs.rt), and those with
+// a saved image (images.rt). The mailbox is a parameter of sct_take and sct_give only.
 mod images;
 mod owner;
 mod ports;
+mod repairs;
+mod result;
 mod works;
 
 pub use images::sct_power_on;
@@ -14,4 +16,5 @@ pub use owner::sct_unlock;
 pub use ports::sct_give;
 pub use ports::sct_serve;
 pub use ports::sct_take;
+pub use repairs::sct_repair;
 pub use works::sct_work;

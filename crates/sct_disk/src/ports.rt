@@ -1,11 +1,14 @@
 // The steps of a port: take, serve, give.
+use layout::CHECK;
 use layout::MAILBOX;
+use layout::SECTOR;
 use layout::answer;
 use record::Stage;
 use refusals::mailbox_refusal;
 use refusals::serve_refusal;
-use refusals::visible_len;
+use refusals::visible_sectors;
 ghost use mathlib.Core.Path.{_≡_};
+ghost use Rattle.model.specs.Disk.{diskOf};
 ghost use Rattle.store.specs.Entries.{takeBytes, serveBytes, giveBytes};
 
 // "Take (port): copies the mailbox into the port's slot. Slot goes from empty to held."
@@ -27,22 +30,35 @@ pub extern "C" fn sct_take(device: &mut [u8], port: u32, mailbox: &[u8], area: &
 
 // "Serve (port): answers the held request from the slot alone and leaves the reply in the slot. Held to answered."
 #[no_mangle]
-pub extern "C" fn sct_serve(device: &mut [u8], port: u32, area: &mut [u8], disk: &mut [u8]) -> u32
-    ensures { λ n. ⌜ n ≡ serveBytes (now (device .entry)) port (now (area .entry)) (now (disk .entry)) .answer ⌝ }
-    ensures device { λ _. ⌜ now (device .exit) ≡ serveBytes (now (device .entry)) port (now (area .entry)) (now (disk .entry)) .recordArea ⌝ }
-    ensures area { λ _. ⌜ now (area .exit) ≡ serveBytes (now (device .entry)) port (now (area .entry)) (now (disk .entry)) .privateArea ⌝ }
-    ensures disk { λ _. ⌜ now (disk .exit) ≡ serveBytes (now (device .entry)) port (now (area .entry)) (now (disk .entry)) .disk ⌝ }
+pub extern "C" fn sct_serve(
+    device: &mut [u8],
+    port: u32,
+    area: &mut [u8],
+    disk: &mut [u8],
+    check_area: &mut [u8],
+) -> u32
+    ensures { λ n. ⌜ n ≡ serveBytes (now (device .entry)) port (now (area .entry)) (diskOf (now (disk .entry)) (now («check_area» .entry))) .answer ⌝ }
+    ensures device { λ _. ⌜ now (device .exit) ≡ serveBytes (now (device .entry)) port (now (area .entry)) (diskOf (now (disk .entry)) (now («check_area» .entry))) .recordArea ⌝ }
+    ensures area { λ _. ⌜ now (area .exit) ≡ serveBytes (now (device .entry)) port (now (area .entry)) (diskOf (now (disk .entry)) (now («check_area» .entry))) .privateArea ⌝ }
+    ensures disk { λ _. ⌜ now (disk .exit) ≡ serveBytes (now (device .entry)) port (now (area .entry)) (diskOf (now (disk .entry)) (now («check_area» .entry))) .disk .sectors ⌝ }
+    ensures check_area { λ _. ⌜ now («check_area» .exit) ≡ serveBytes (now (device .entry)) port (now (area .entry)) (diskOf (now (disk .entry)) (now («check_area» .entry))) .disk .checkArea ⌝ }
 {
-    let refusal = serve_refusal(device, port, area.len(), disk.len());
+    let refusal = serve_refusal(device, port, area.len(), disk.len(), check_area.len());
     if refusal != answer::DONE {
         return refusal;
     }
-    let visible = visible_len(device);
-    serve_request::serve(device, area, &mut disk[..visible], port as usize);
+    let visible = visible_sectors(device);
+    serve_request::serve(
+        device,
+        area,
+        &mut disk[..SECTOR * visible],
+        &mut check_area[..CHECK * visible],
+        port as usize,
+    );
     answer::DONE
 }
 
-// "Give (port): writes all 528 reply bytes to the mailbox. Answered to empty; the slot's bytes stay."
+// "Give (port): writes all 528 reply bytes to the mailbox. Answered to empty; the slot's bytes stay.": 1,040 since W-202.
 #[no_mangle]
 pub extern "C" fn sct_give(device: &mut [u8], port: u32, mailbox: &mut [u8], area: &[u8]) -> u32
     ensures { λ n. ⌜ n ≡ giveBytes (now (device .entry)) port (now (mailbox .entry)) (now (area .entry)) .answer ⌝ }

@@ -1,11 +1,10 @@
 -- How a slot is served: the request is decided for the record's device, and performed.
 use mathlib.Core.Path.{_≡_, sym, ap, _∙_, subst}
 use mathlib.Core.List.{List}
-use Prim.Native.Nat.{ℕ, _*_, _≤_}
+use Prim.Native.Nat.{ℕ, _≤_, _<_}
 use native.Mathlib.Omega.{arith}
-use lib.ListN.{length}
 use Rattle.wire.specs.Bytes.{Bytes}
-use Rattle.model.specs.Sizes.{sectorSize}
+use Rattle.model.specs.Disk.{Disk, HasSize}
 use Rattle.model.specs.Device.{Device}
 use Rattle.model.specs.Registers.{Request, requestOf}
 use Rattle.model.specs.Decide.{Serving, Decision, decideRequest, decide}
@@ -22,7 +21,7 @@ use Rattle.decision.specs.declared.decision as code
 use Rattle.decision.specs.declared.decision.Writing.the-variants as writes
 use Rattle.decision.specs.declared.decision.Sending.the-variants as sends
 use Rattle.decision.specs.DecisionMeaning.{asWriting, asSending, asDecision, Decided}
-use Rattle.effect.specs.Effects.{WritesWithin, SendsWithin}
+use Rattle.effect.specs.Effects.{Within, WritesWithin, SendsWithin}
 use Rattle.serve_request.specs.Served.{served, Served, Performable, Entered}
 
 -- "1 ≤ V"
@@ -33,19 +32,24 @@ entered-visible r a p d e b says =
     omega (arith, v, same)
 
 -- sectors below V are within the visible disk
-writes-within : (d : Device) (w : code.Writing.Writing) (m disk : List ℕ) → length disk ≡ sectorSize * d .visible → WritingValid d (asWriting w m) → WritesWithin (length disk) w
+within : (visible lba : ℕ) (disk : Disk) → HasSize visible disk → lba < visible → Within disk lba
+within visible lba disk size h = (omega (arith, size .0), omega (arith, size .1))
+
+writes-within : (d : Device) (w : code.Writing.Writing) (m : List ℕ) (disk : Disk) → HasSize (d .visible) disk → WritingValid d (asWriting w m) → WritesWithin disk w
 writes-within d writes.Nothing m disk size v = tt
-writes-within d (writes.Sector lba) m disk size v = omega (arith, size, v .0)
+writes-within d (writes.Sector lba) m disk size v = within (d .visible) lba disk size (v .0)
+writes-within d (writes.LongSector lba) m disk size v = within (d .visible) lba disk size (v .0)
 writes-within d (writes.PatternFill first end) m disk size v = tt
 writes-within d (writes.DataFill first end) m disk size v = tt
 
-sends-within : (visible : ℕ) (x : code.Sending.Sending) (disk : List ℕ) → length disk ≡ sectorSize * visible → SendingValid visible (asSending x) → SendsWithin (length disk) x
+sends-within : (visible : ℕ) (x : code.Sending.Sending) (disk : Disk) → HasSize visible disk → SendingValid visible (asSending x) → SendsWithin disk x
 sends-within visible sends.Nothing disk size v = tt
 sends-within visible sends.Status disk size v = tt
 sends-within visible sends.Temperatures disk size v = tt
-sends-within visible (sends.Sector lba) disk size v = omega (arith, size, v)
+sends-within visible (sends.Sector lba) disk size v = within visible lba disk size v
+sends-within visible (sends.StoredSector lba) disk size v = within visible lba disk size v
 
-module _ (r a disk : List ℕ) (p : ℕ) (d : device.Device.Device) (q : Request) (k : code.Decision.Decision) (entered : Entered r a p)
+module _ (r a : List ℕ) (disk : Disk) (p : ℕ) (d : device.Device.Device) (q : Request) (k : code.Decision.Decision) (entered : Entered r a p)
     (says : asContents d (historyOf r) ≡ decode r) (decides : Decided (slotBytes p a) (decideRequest q (record { port = p }) (slotBytes p a)) d k) where
   abbrev m : List ℕ
   m = slotBytes p a
@@ -58,11 +62,11 @@ module _ (r a disk : List ℕ) (p : ℕ) (d : device.Device.Device) (q : Request
   decided = decides .same (historyOf r) ∙ ap (λ (c : Contents). decideRequest q serving m (c .device)) says
 
   -- whatever the request
-  pub performable : Bytes r → Bytes a → length disk ≡ sectorSize * decode r .device .visible → Performable r a disk p k
+  pub performable : Bytes r → Bytes a → HasSize (decode r .device .visible) disk → Performable r a disk p k
   performable rb ab size =
       let valid = request-valid q serving m (decode r .device) (sound-valid r rb (entered .soundRecord) .device) (slot-sized a p (record { size = entered .size; bytes = ab }) (entered .port)) in
       let dv : DecisionValid (decode r .device) (asDecision k m (historyOf r)) = subst (λ (c : Decision). DecisionValid (decode r .device) c) (sym decided) valid in
-      let sized : length disk ≡ sectorSize * k .device .visible = size ∙ ap (λ (v : ℕ). sectorSize * v) (sym (dv .sameSizes .1)) in
+      let sized : HasSize (k .device .visible) disk = subst (λ (v : ℕ). HasSize v disk) (sym (dv .sameSizes .1)) size in
       record {
         framed = sound-framed r rb (entered .soundRecord);
         size = entered .size;
@@ -73,7 +77,7 @@ module _ (r a disk : List ℕ) (p : ℕ) (d : device.Device.Device) (q : Request
       }
 
   -- THE LAW of a slot served
-  pub serves : q ≡ requestOf m → (newRecord b newDisk : List ℕ) → Served p (asDecision k m (historyOf r)) (stagesOf (k .device .slots)) a disk newRecord b newDisk
+  pub serves : q ≡ requestOf m → (newRecord b : List ℕ) (newDisk : Disk) → Served p (asDecision k m (historyOf r)) (stagesOf (k .device .slots)) a disk newRecord b newDisk
       → Served p (decide serving m (decode r .device)) (decode r .stages) a disk newRecord b newDisk
   unfolding decide
   serves asked newRecord b newDisk s =

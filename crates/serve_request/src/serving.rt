@@ -1,22 +1,19 @@
 // How the request that a slot holds is decided and performed.
 use crate::performing::perform;
 use layout::MAILBOX;
-ghost use mathlib.Core.Path.{_≡_};
-ghost use Prim.Native.Nat.{_*_};
-ghost use lib.ListN.{length};
-ghost use Rattle.model.specs.Sizes.{sectorSize};
+ghost use Rattle.model.specs.Disk.{diskOf, HasSize};
 ghost use Rattle.model.specs.Decide.{decide};
 ghost use Rattle.store.specs.Record.{decode};
 ghost use Rattle.store.specs.Store.{slotBytes};
 ghost use Rattle.serve_request.specs.Served.{Served, Entered};
 
-// "answers the held request from the slot alone and leaves the reply in the slot". `disk` is only the visible part.
-pub fn serve(device: &mut [u8], area: &mut [u8], disk: &mut [u8], p: usize)
-    requires { ⌜ Entered (now device) (now area) p × (length (now disk) ≡ sectorSize * decode (now device) .device .visible) ⌝ }
-    ensures { λ _. ⌜ Served p (decide (record { port = p }) (slotBytes p (now (area .entry))) (decode (now (device .entry)) .device)) (decode (now (device .entry)) .stages) (now (area .entry)) (now (disk .entry)) (now (device .exit)) (now (area .exit)) (now (disk .exit)) ⌝ }
+// "answers the held request from the slot alone and leaves the reply in the slot". `disk` and `check_area` are only the visible part.
+pub fn serve(device: &mut [u8], area: &mut [u8], disk: &mut [u8], check_area: &mut [u8], p: usize)
+    requires { ⌜ Entered (now device) (now area) p × HasSize (decode (now device) .device .visible) (diskOf (now disk) (now «check_area»)) ⌝ }
+    ensures { λ _. ⌜ Served p (decide (record { port = p }) (slotBytes p (now (area .entry))) (decode (now (device .entry)) .device)) (decode (now (device .entry)) .stages) (now (area .entry)) (diskOf (now (disk .entry)) (now («check_area» .entry))) (now (device .exit)) (now (area .exit)) (diskOf (now (disk .exit)) (now («check_area» .exit))) ⌝ }
 {
     let d = record::decode(device);
     let q = request::request_of(area, MAILBOX * p);
     let k = decide::decide(q, area, p, d);
-    perform(device, area, disk, p, k);
+    perform(device, area, disk, check_area, p, k);
 }

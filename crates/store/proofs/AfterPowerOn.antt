@@ -2,7 +2,7 @@
 use mathlib.Core.Path.{_≡_, sym, ap, _∙_}
 use Prim.Native.Nat.{ℕ, _*_, _≤_}
 use mathlib.Core.List.{List, [], _∷_, _++_}
-use lib.ListN.{length, getD}
+use lib.ListN.{length}
 use Rattle.wire.specs.Bytes.{Bytes}
 use Rattle.model.specs.Device.{Device}
 use Rattle.model.specs.Disk.{Disk}
@@ -10,6 +10,7 @@ use Rattle.model.specs.Machine.{Machine, request}
 use Rattle.model.specs.Image.{savedFrom}
 use Rattle.model.specs.Step.{Step, take, save}
 use Rattle.model.specs.Valid.{Fed, Each}
+use Rattle.model.proofs.DiskSizes.{SameSize}
 use Rattle.model.proofs.StepLaws.{step-done, port-same}
 use Rattle.model.proofs.TakenLaws.{AllLeave}
 use Rattle.model.proofs.PowerOnLaws.{KeptRules}
@@ -19,7 +20,7 @@ use Rattle.store.specs.Store.{Store, machineOf}
 use Rattle.store.specs.Entries.{PowerOnAfter, powerOnBytes}
 use Rattle.store.specs.OnStore.{onStore}
 use Rattle.store.specs.Condition3.{HiddenKept, started}
-use Rattle.store.proofs.FollowLaws.{hidden-bytes, StoreValid}
+use Rattle.store.proofs.FollowLaws.{BytesKept, hidden-bytes, StoreValid}
 use Rattle.store.proofs.StepFollows.{follows}
 use Rattle.store.proofs.Condition3Holds.{started-valid}
 use Rattle.store.proofs.AnswerLaws.{ListAnswersRight, list-answers, storeAfter, request-kept, step-answer}
@@ -31,11 +32,10 @@ list-valid [] s fed v = v
 list-valid (x ∷ xs) s fed v = list-valid xs (onStore x s .state) (fed .1) (follows x s (fed .0) v .valid)
 
 -- what `HiddenKept` states, byte by byte, of every step of a list
-pub hidden-every : (before : List Step) (x : Step) (after : List Step) (s : Store) → HiddenKept (before ++ (x ∷ after)) s → (i : ℕ)
-    → 512 * decode (storeAfter before s .recordArea) .device .visible ≤ i
-    → getD (onStore x (storeAfter before s) .state .disk .sectors) i 0 ≡ getD (storeAfter before s .disk .sectors) i 0
-hidden-every [] x after s kept i h = hidden-bytes s (onStore x s .state) (kept .0) i h
-hidden-every (y ∷ before) x after s kept i h = hidden-every before x after (onStore y s .state) (kept .1) i h
+pub hidden-every : (before : List Step) (x : Step) (after : List Step) (s : Store) → HiddenKept (before ++ (x ∷ after)) s
+    → BytesKept (storeAfter before s) (onStore x (storeAfter before s) .state)
+hidden-every [] x after s kept = hidden-bytes s (onStore x s .state) (kept .0)
+hidden-every (y ∷ before) x after s kept = hidden-every before x after (onStore y s .state) (kept .1)
 
 -- a request taken from valid bytes is kept
 taken-kept : (p : ℕ) (m : List ℕ) (xs : List Step) (s : Store) → Bytes m → Each Fed xs → StoreValid s → onStore (take p m) s .seen .answer ≡ 0
@@ -52,12 +52,12 @@ pub record ReadBack (saved : Device) (on : PowerOnAfter) : Type 0 where
   pub answers : on .answer ≡ 0
   pub kept : KeptRules (savedFrom saved) (decode (on .recordArea) .device)
 
-module _ (r a : List ℕ) (disk : Disk) (image : List ℕ) (used : ℕ) (answers : powerOnBytes r a (disk .sectors) image used .answer ≡ 0) (diskBytes : Bytes (disk .sectors)) (imageBytes : Bytes image) where
+module _ (r a : List ℕ) (disk : Disk) (image : List ℕ) (used : ℕ) (answers : powerOnBytes r a disk image used .answer ≡ 0) (diskBytes : Bytes (disk .sectors)) (checkBytes : Bytes (disk .checkArea)) (imageBytes : Bytes image) where
   abbrev start : Store
   start = started r a disk image used
 
   start-valid : StoreValid start
-  start-valid = started-valid r a disk image used answers diskBytes imageBytes
+  start-valid = started-valid r a disk image used answers diskBytes checkBytes imageBytes
 
   -- THEOREM: after a power-on that answers 0, the bytes are valid after every list of steps: the record is sound, and the rest of `StoreValid`.
   pub valid-after : (xs : List Step) → Each Fed xs → StoreValid (storeAfter xs start)
@@ -79,7 +79,7 @@ module _ (r a : List ℕ) (disk : Disk) (image : List ℕ) (used : ℕ) (answers
   -- THEOREM: an image saved after any list of steps is read back: a power-on from it answers 0, on that disk whatever was written to it since, and
   -- gives what was saved, as the power-on rules keep it.
   pub saved-back : (xs : List Step) → Each Fed xs → (i : List ℕ) (u : ℕ) → onStore (save i u) (storeAfter xs start) .seen .answer ≡ 0
-      → (anyRecord anyArea later : List ℕ) → length anyRecord ≡ recordSize → length anyArea ≡ privateSize → length later ≡ length (storeAfter xs start .disk .sectors)
+      → (anyRecord anyArea : List ℕ) (later : Disk) → length anyRecord ≡ recordSize → length anyArea ≡ privateSize → SameSize later (storeAfter xs start .disk)
       → ReadBack (decode (storeAfter xs start .recordArea) .device) (powerOnBytes anyRecord anyArea later (onStore (save i u) (storeAfter xs start) .seen .image) (onStore (save i u) (storeAfter xs start) .seen .used))
   saved-back xs fed i u saves r a later size private same =
       let v = valid-after xs fed in

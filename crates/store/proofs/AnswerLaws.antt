@@ -11,12 +11,12 @@ use borrow.Author.Tests.{eqb-true, eqb-false, eq-eqb, ltb-true, lt-ltb, leb-true
 use Rattle.wire.specs.Choice.{if_then_else_, Check, firstFailed}
 use Rattle.wire.proofs.ChoiceLaws.{Numbered, and-left, and-right, between-within, first-bound, attempt-refused, attempt-done, attempt-answer, all-pass, pass-all}
 use Rattle.model.specs.Sizes.{sectorSize, nativeLimit, mailboxSize}
-use Rattle.model.specs.Image.{wholeSectors, readable, sameDisk}
+use Rattle.model.specs.Image.{wellSized, readable, sameDisk}
 use Rattle.model.specs.Machine.{Machine, request}
-use Rattle.model.specs.Step.{Step, take, serve, give, work, owner, save, powerOn, Seen, checks, unchanged, step}
+use Rattle.model.specs.Step.{Step, take, serve, give, work, owner, repair, save, powerOn, Seen, checks, unchanged, step}
 use Rattle.model.specs.Valid.{Fed, Each, MachineValid}
 use Rattle.model.proofs.StepLaws.{keepsOrder, answer-first, answer-is}
-use Rattle.model.proofs.LimitLaws.{whole-sectors}
+use Rattle.model.proofs.DiskSizes.{well-sized}
 use Rattle.model.proofs.TakenLaws.{LeavesRequest, AllLeave, after, requests-stay}
 use Rattle.model.proofs.RefusalLaws.{power-on-empty}
 use Rattle.store.specs.Areas.{recordSize, privateSize}
@@ -38,6 +38,7 @@ entry-order (serve x) s = (refl, omega arith)
 entry-order (give p m) s = (refl, omega arith)
 entry-order (work n) s = (refl, omega arith)
 entry-order (owner x) s = (refl, omega arith)
+entry-order (repair lba) s = (refl, omega arith)
 entry-order (save image used) s = (refl, omega arith)
 entry-order (powerOn image used) s = (refl, omega arith)
 
@@ -47,6 +48,7 @@ done-answer (serve x) s = refl
 done-answer (give p m) s = refl
 done-answer (work n) s = refl
 done-answer (owner x) s = refl
+done-answer (repair lba) s = refl
 done-answer (save image used) s = refl
 done-answer (powerOn image used) s = refl
 
@@ -85,6 +87,7 @@ LengthWrong (serve x) = ⊥
 LengthWrong (give p m) = length m ≡ mailboxSize → ⊥
 LengthWrong (work n) = ⊥
 LengthWrong (owner x) = ⊥
+LengthWrong (repair lba) = ⊥
 LengthWrong (save image used) = length image < used
 LengthWrong (powerOn image used) = length image < used
 
@@ -95,6 +98,7 @@ no-four (serve x) M = omega arith
 no-four (give p m) M = omega arith
 no-four (work n) M = tt
 no-four (owner x) M = omega arith
+no-four (repair lba) M = omega arith
 no-four (save image used) M = omega arith
 no-four (powerOn image used) M = omega arith
 
@@ -106,14 +110,10 @@ after-length false cs e h = refl
 never-two : (cs : List Check) → EachNumber (λ n. n ≡ 2 → ⊥) cs → firstFailed cs ≡ 2 → ⊥
 never-two cs e h = first-among (λ n. n ≡ 2 → ⊥) cs (λ z. omega arith) e h
 
-disk-whole : (M : Machine) → MachineValid M → wholeSectors (length (M .disk .sectors)) ≡ true
+disk-whole : (M : Machine) → MachineValid M → wellSized (M .disk) ≡ true
 disk-whole M ok =
     let sizes = ok .deviceValid .sizes in
-    rw (ok .diskValid .size, eq-eqb ((sectorSize * M .device .native) % sectorSize) 0 (omega arith))
-    (rw (multiple (M .device .native)) (between-within 1 (M .device .native) nativeLimit (omega (arith, sizes .0, sizes .1)) (sizes .2)))
-  where
-    multiple : (n : ℕ) → sectorSize * n / sectorSize ≡ n
-    multiple n = omega arith
+    well-sized (M .device .native) (M .disk) (ok .diskValid .sectorsValid .size, ok .diskValid .checkAreaValid .size) (omega (arith, sizes .0, sizes .1)) (sizes .2)
 
 only-length : (x : Step) (M : Machine) → MachineValid M → firstFailed (checks x M) ≡ 2 → LengthWrong x
 only-length (take p m) M ok e =
@@ -123,6 +123,7 @@ only-length (give p m) M ok e =
     eqb-false (length m) mailboxSize (after-length (eqb (length m) mailboxSize) (drop 1 (checks (give p m) M)) (omega arith) e)
 only-length (work n) M ok e = absurd (omega arith)
 only-length (owner x) M ok e = never-two (checks (owner x) M) (omega arith) e
+only-length (repair lba) M ok e = never-two (checks (repair lba) M) (omega arith) e
 only-length (save image used) M ok e =
     leb-false used (length image) (after-length (leb used (length image)) (drop 1 (checks (save image used) M)) (omega arith) e)
 only-length (powerOn image used) M ok e =
@@ -209,6 +210,7 @@ step-leaves p (serve x) s fed v l = l
 step-leaves p (give q m) s fed v l = tt
 step-leaves p (work n) s fed v l = tt
 step-leaves p (owner x) s fed v l = tt
+step-leaves p (repair lba) s fed v l = tt
 step-leaves p (save image used) s fed v l = tt
 step-leaves p (powerOn image used) s fed v l = λ e. l (ap (λ (o : Seen). o .answer) (follows (powerOn image used) s fed v .seenSame) ∙ e)
 

@@ -47,48 +47,44 @@ list-hidden (x ∷ xs) s fed v =
 
 -- ---- the first power-on
 
-module _ (r a : List ℕ) (disk : Disk) (image : List ℕ) (used : ℕ) where
-  abbrev sectors : List ℕ
-  sectors = disk .sectors
+module _ (r a : List ℕ) (disk : Disk) (image : List ℕ) (used : ℕ) (answers : powerOnBytes r a disk image used .answer ≡ 0) where
+  on-passed : firstFailed (powerOnChecks r a disk image used) ≡ 0
+  on-passed = sym (power-on-answer r a disk image used) ∙ answers
 
-  module _ (answers : powerOnBytes r a sectors image used .answer ≡ 0) where
-    on-passed : firstFailed (powerOnChecks r a sectors image used) ≡ 0
-    on-passed = sym (power-on-answer r a sectors image used) ∙ answers
+  -- the machine's power-on has fewer checks: those of disk and image
+  disk-passed : firstFailed (diskChecks disk image used) ≡ 0
+  disk-passed = pass-all (diskChecks disk image used) (all-pass 8 (powerOnChecks r a disk image used) (omega arith) on-passed .1 .1)
 
-    -- the machine's power-on has fewer checks: those of disk and image
-    disk-passed : firstFailed (diskChecks sectors image used) ≡ 0
-    disk-passed = pass-all (diskChecks sectors image used) (all-pass 8 (powerOnChecks r a sectors image used) (omega arith) on-passed .1 .1)
+  started-is : started r a disk image used ≡ store (encode (poweredContents disk image used)) (zeros privateSize) disk
+  unfolding powerOnBytes
+  started-is = rw (attempt-done (powerOnEntry r a disk image used) 0 (sym on-passed) refl)
 
-    started-is : started r a disk image used ≡ store (encode (poweredContents sectors image used)) (zeros privateSize) disk
-    unfolding powerOnBytes
-    started-is = rw (attempt-done (powerOnEntry r a sectors image used) 0 (sym on-passed) refl)
+  module _ (diskBytes : Bytes (disk .sectors)) (checkBytes : Bytes (disk .checkArea)) (imageBytes : Bytes image) where
+    powered : StoreValid (store (encode (poweredContents disk image used)) (zeros privateSize) disk)
+        × (machineOf (store (encode (poweredContents disk image used)) (zeros privateSize) disk) ≡ poweredOn disk image used)
+    powered = powered-store disk image used (power-on-machine disk image used diskBytes checkBytes imageBytes disk-passed)
 
-    module _ (diskBytes : Bytes sectors) (imageBytes : Bytes image) where
-      powered : StoreValid (store (encode (poweredContents sectors image used)) (zeros privateSize) disk)
-          × (machineOf (store (encode (poweredContents sectors image used)) (zeros privateSize) disk) ≡ poweredOn disk image used)
-      powered = powered-store disk image used (power-on-machine disk image used diskBytes imageBytes disk-passed)
+    -- the bytes after the power-on are valid, and represent the machine
+    pub started-valid : StoreValid (started r a disk image used)
+    started-valid = rw started-is (powered .0)
 
-      -- the bytes after the power-on are valid, and represent the machine
-      pub started-valid : StoreValid (started r a disk image used)
-      started-valid = rw started-is (powered .0)
+    started-machine : machineOf (started r a disk image used) ≡ poweredOn disk image used
+    started-machine = ap machineOf started-is ∙ powered .1
 
-      started-machine : machineOf (started r a disk image used) ≡ poweredOn disk image used
-      started-machine = ap machineOf started-is ∙ powered .1
-
-      follows-machine : (xs : List Step) → Each Fed xs → FollowsMachine r a disk image used xs
-      unfolding firstAnswer
-      follows-machine xs fed =
-          record {
-            sameAnswer = disk-passed;
-            afterPowerOn = started-machine;
-            afterEachStep = list-follows xs (started r a disk image used) fed started-valid ∙ ap (trace step xs) started-machine;
-            hidden = list-hidden xs (started r a disk image used) fed started-valid;
-          }
+    follows-machine : (xs : List Step) → Each Fed xs → FollowsMachine r a disk image used xs
+    unfolding firstAnswer
+    follows-machine xs fed =
+        record {
+          sameAnswer = disk-passed;
+          afterPowerOn = started-machine;
+          afterEachStep = list-follows xs (started r a disk image used) fed started-valid ∙ ap (trace step xs) started-machine;
+          hidden = list-hidden xs (started r a disk image used) fed started-valid;
+        }
 
 -- THEOREM: condition 3.
 pub condition-3 : Condition3
-condition-3 r a disk image used diskBytes imageBytes =
+condition-3 r a disk image used diskBytes checkBytes imageBytes =
     record {
       answersZero = no-refusal r a disk image used imageBytes;
-      followed = λ answers xs fed. follows-machine r a disk image used answers diskBytes imageBytes xs fed;
+      followed = λ answers xs fed. follows-machine r a disk image used answers diskBytes checkBytes imageBytes xs fed;
     }

@@ -10,14 +10,15 @@ use lib.Seq.{sets, getD-set-same, getD-set-other, getD-drop}
 use lib.Dec.{eqb}
 use borrow.Author.Tests.{eqb-true, eqb-false}
 use Rattle.wire.specs.Choice.{if_then_else_}
+use Rattle.wire.specs.Numbers.{get}
 use Rattle.wire.specs.Parts.{part}
 use Rattle.wire.specs.Bytes.{Bytes}
-use Rattle.wire.proofs.PartsLaws.{part-after, part-before, part-same, part-part, length-part}
+use Rattle.wire.proofs.PartsLaws.{part-after, part-before, part-same, part-part, get-part, length-part}
 use Rattle.wire.proofs.BytesLaws.{bytes-part}
-use Rattle.model.specs.Sizes.{sectorSize, registersSize, mailboxSize}
+use Rattle.model.specs.Sizes.{sectorSize, checkSize, registersSize, mailboxSize}
 use Rattle.model.specs.Device.{Fill, idle, running}
 use Rattle.model.specs.Disk.{Disk}
-use Rattle.model.specs.Registers.{dataOf}
+use Rattle.model.specs.Registers.{dataOf, longDataOf}
 use Rattle.model.specs.Machine.{whileRunning, withPort}
 use Rattle.model.specs.Machine.{empty as nothing}
 use Rattle.model.specs.Valid.{SectorValid, PortValid, Sized, DiskValid, MachineValid}
@@ -35,22 +36,33 @@ use Rattle.store.proofs.SoundLaws.{sound-valid, sound-encode}
 -- "Our device is read from record and fill sector; .. a slot is empty, held or answered as the machine's port holds nothing, a request or a reply."
 pub record MachineRead (s : Store) : Type 0 where
   pub device : machineOf s .device ≡ decode (s .recordArea) .device
-  pub sector : machineOf s .sector ≡ whileRunning (decode (s .recordArea) .device .command .fill) (part (s .privateArea) 2112 512)
-  pub ports : (p : ℕ) → machineOf s .ports p ≡ portOf (getD (decode (s .recordArea) .stages) p empty) (part (s .privateArea) (528 * p) 528)
+  pub sector : machineOf s .sector ≡ whileRunning (decode (s .recordArea) .device .command .fill) (part (s .privateArea) 4160 512)
+  pub ports : (p : ℕ) → machineOf s .ports p ≡ portOf (getD (decode (s .recordArea) .stages) p empty) (part (s .privateArea) (1040 * p) 1040)
   pub disk : machineOf s .disk ≡ s .disk
 
 pub machine-read : (s : Store) → MachineRead s
 unfolding machineOf
 machine-read s = record { device = refl; sector = refl; ports = λ p. refl; disk = refl }
 
--- what `keptHidden` states, byte by byte: those from 512 V on are the same, with V of the record before
-pub hidden-bytes : (s t : Store) → keptHidden s t → (i : ℕ) → 512 * decode (s .recordArea) .device .visible ≤ i → getD (t .disk .sectors) i 0 ≡ getD (s .disk .sectors) i 0
+-- what `keptHidden` states, byte by byte: sectors from 512 V on and check bytes from 2 V on are the same, with V of the record before
+pub record BytesKept (before after : Store) : Type 0 where
+  pub sectors : (i : ℕ) → 512 * decode (before .recordArea) .device .visible ≤ i → getD (after .disk .sectors) i 0 ≡ getD (before .disk .sectors) i 0
+  pub checkArea : (i : ℕ) → 2 * decode (before .recordArea) .device .visible ≤ i → getD (after .disk .checkArea) i 0 ≡ getD (before .disk .checkArea) i 0
+
+dropped-same : (from : ℕ) (a b : List ℕ) → drop from a ≡ drop from b → (i : ℕ) → from ≤ i → getD a i 0 ≡ getD b i 0
+dropped-same from a b same i h = sym (at a) ∙ ap (λ (l : List ℕ). getD l (i - from) 0) same ∙ at b
+  where
+    at : (l : List ℕ) → getD (drop from l) (i - from) 0 ≡ getD l i 0
+    at l = getD-drop from l (i - from) 0 ∙ ap (λ (k : ℕ). getD l k 0) (omega arith)
+
+pub hidden-bytes : (s t : Store) → keptHidden s t → BytesKept s t
 unfolding machineOf
-hidden-bytes s t same i h =
-    let from = 512 * decode (s .recordArea) .device .visible in
-    let at : (disk : Disk) → getD (drop from (disk .sectors)) (i - from) 0 ≡ getD (disk .sectors) i 0 =
-    λ disk. getD-drop from (disk .sectors) (i - from) 0 ∙ ap (λ (k : ℕ). getD (disk .sectors) k 0) (omega arith) in
-    sym (at (t .disk)) ∙ ap (λ (hidden : Disk). getD (hidden .sectors) (i - from) 0) same ∙ at (s .disk)
+hidden-bytes s t same =
+    let visible = decode (s .recordArea) .device .visible in
+    record {
+      sectors = dropped-same (512 * visible) (t .disk .sectors) (s .disk .sectors) (ap (λ (hidden : Disk). hidden .sectors) same);
+      checkArea = dropped-same (2 * visible) (t .disk .checkArea) (s .disk .checkArea) (ap (λ (hidden : Disk). hidden .checkArea) same);
+    }
 
 -- ---- valid bytes
 
@@ -125,6 +137,12 @@ store-encoded c a disk v p k =
 -- the data of slot p, at its place in the area
 pub slot-data : (a : List ℕ) (p : ℕ) → part a (slotPlace p + registersSize) sectorSize ≡ dataOf (slotBytes p a)
 slot-data a p = sym (part-part a (slotPlace p) slotSize registersSize sectorSize (omega arith))
+
+-- .. and the check bytes behind it
+pub slot-check : (a : List ℕ) (p : ℕ) → get checkSize a (slotPlace p + registersSize + sectorSize) ≡ longDataOf (slotBytes p a) .check
+slot-check a p =
+    let behind : slotPlace p + registersSize + sectorSize ≡ slotPlace p + (registersSize + sectorSize) = omega arith in
+    ap (get checkSize a) behind ∙ sym (get-part checkSize a (slotPlace p) slotSize (registersSize + sectorSize) (omega arith))
 
 -- bytes stored in slot p are slot p's, and do not change any other slot
 slot-same : (a x : List ℕ) (p : ℕ) → length x ≡ slotSize → p < 4 → length a ≡ privateSize → slotBytes p (sets a (slotPlace p) x) ≡ x

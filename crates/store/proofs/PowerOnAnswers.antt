@@ -10,12 +10,13 @@ use lib.Dec.{eqb}
 use borrow.Author.Tests.{eqb-true, eqb-false, eq-eqb, ne-eqb, leb-true, le-leb}
 use Rattle.wire.specs.Choice.{firstFailed}
 use Rattle.wire.specs.Bytes.{Bytes}
-use Rattle.wire.proofs.ChoiceLaws.{attempt-answer, all-pass, pass-all}
+use Rattle.wire.proofs.ChoiceLaws.{and-left, and-right, and-both, attempt-answer, all-pass, pass-all}
 use Rattle.model.specs.Sizes.{sectorSize}
 use Rattle.model.specs.Image.{wholeSectors, newestIn, readable, sameDisk}
 use Rattle.model.specs.ImageForm.{ImageForm}
-use Rattle.model.specs.Disk.{Disk}
+use Rattle.model.specs.Disk.{Disk, HasSize}
 use Rattle.model.proofs.LimitLaws.{whole-sectors}
+use Rattle.model.proofs.DiskSizes.{well-sized}
 use Rattle.model.proofs.ImageLaws.{readable-form, form-readable, newest-like}
 use Rattle.model.proofs.RefusalLaws.{power-on-empty}
 use Rattle.store.specs.Areas.{recordSize, privateSize}
@@ -23,38 +24,49 @@ use Rattle.store.specs.Entries.{PowerOnAfter, powerOnChecks, powerOnEntr
 use Rattle.store.specs.Condition3.{NoRefusal}
 
 -- it answers with the number of the first check that fails
-pub power-on-answer : (r a disk image : List ℕ) (used : ℕ) → powerOnBytes r a disk image used .answer ≡ firstFailed (powerOnChecks r a disk image used)
+pub power-on-answer : (r a : List ℕ) (disk : Disk) (image : List ℕ) (used : ℕ) → powerOnBytes r a disk image used .answer ≡ firstFailed (powerOnChecks r a disk image used)
 unfolding powerOnBytes
 power-on-answer r a disk image used = attempt-answer (powerOnEntry r a disk image used) (λ (o : PowerOnAfter). o .answer) refl (λ n. refl)
 
 -- THEOREM: a power-on answers 0 exactly if the paper names no refusal: record and private area have their sizes, the disk is 1 to 65,536 whole
--- sectors (512 to 33,554,432 bytes, a multiple of 512), the used length is within the buffer, the image is readable, its newest entry this disk's.
-pub power-on-exactly : (r a disk image : List ℕ) (used : ℕ)
-    → (powerOnBytes r a disk image used .answer ≡ 0)
-    ↔ ((length r ≡ recordSize) × (length a ≡ privateSize) × ((length disk % 512 ≡ 0) × (512 ≤ length disk) × (length disk ≤ 33554432)) × (used ≤ length image) × (readable image used ≡ true) × (sameDisk (length disk / sectorSize) image used ≡ true))
+-- sectors (512 to 33,554,432 bytes, a multiple of 512) with two check bytes each, the used length is within the buffer, the image is readable, its newest entry this disk's.
+pub power-on-exactly : (r a : List ℕ) (disk : Disk) (image : List ℕ) (used : ℕ)
+    → let size = length (disk .sectors) in
+    (powerOnBytes r a disk image used .answer ≡ 0)
+    ↔ ((length r ≡ recordSize) × (length a ≡ privateSize) × ((size % 512 ≡ 0) × (512 ≤ size) × (size ≤ 33554432)) × (length (disk .checkArea) ≡ 2 * (size / 512)) × (used ≤ length image) × (readable image used ≡ true) × (sameDisk (size / 512) image used ≡ true))
 power-on-exactly r a disk image used = (
   λ e.
       let pass = all-pass 8 (powerOnChecks r a disk image used) (omega arith) (sym (power-on-answer r a disk image used) ∙ e) in (
         eqb-true (length r) recordSize (pass .0),
         eqb-true (length a) privateSize (pass .1 .0),
-        whole-sectors (length disk) .0 (pass .1 .1 .0),
+        whole-sectors (length (disk .sectors)) .0 (and-left (wholeSectors (length (disk .sectors))) _ (pass .1 .1 .0)),
+        eqb-true (length (disk .checkArea)) (2 * (length (disk .sectors) / 512)) (and-right (wholeSectors (length (disk .sectors))) _ (pass .1 .1 .0)),
         leb-true used (length image) (pass .1 .1 .1 .0),
         pass .1 .1 .1 .1 .0,
         pass .1 .1 .1 .1 .1 .0,
       ),
   λ k.
       power-on-answer r a disk image used
-      ∙ pass-all (powerOnChecks r a disk image used)
-      (eq-eqb (length r) recordSize (k .0), (eq-eqb (length a) privateSize (k .1), (whole-sectors (length disk) .1 (k .2), (le-leb used (length image) (k .3), (k .4, (k .5, tt)))))),
+      ∙ pass-all (powerOnChecks r a disk image used) (
+        eq-eqb (length r) recordSize (k .0),
+        (
+          eq-eqb (length a) privateSize (k .1),
+          (
+            and-both (wholeSectors (length (disk .sectors))) (eqb (length (disk .checkArea)) (2 * (length (disk .sectors) / 512)))
+                (whole-sectors (length (disk .sectors)) .1 (k .2))
+                (eq-eqb (length (disk .checkArea)) (2 * (length (disk .sectors) / 512)) (k .3)),
+            (le-leb used (length image) (k .4), (k .5, (k .6, tt))),
+          ),
+        ),
+      ),
 )
 
--- THEOREM: it answers 0 for every disk of 1 to 65,536 whole sectors with used length 0.
-pub power-on-fresh : (r a disk image : List ℕ) (n : ℕ) → length r ≡ recordSize → length a ≡ privateSize → length disk ≡ 512 * n → 1 ≤ n → n ≤ 65536
+-- THEOREM: it answers 0 for every disk of 1 to 65,536 whole sectors, with its check area, and used length 0.
+pub power-on-fresh : (r a : List ℕ) (disk : Disk) (image : List ℕ) (n : ℕ) → length r ≡ recordSize → length a ≡ privateSize → HasSize n disk → 1 ≤ n → n ≤ 65536
     → powerOnBytes r a disk image 0 .answer ≡ 0
-power-on-fresh r a disk image n size private sectors some most =
-    let whole : wholeSectors (length disk) ≡ true = whole-sectors (length disk) .1 (omega arith, omega arith, omega arith) in
+power-on-fresh r a disk image n size private sized some most =
     power-on-answer r a disk image 0
-    ∙ rw (eq-eqb (length r) recordSize size, eq-eqb (length a) privateSize private) (power-on-empty disk image 0 whole)
+    ∙ rw (eq-eqb (length r) recordSize size, eq-eqb (length a) privateSize private) (power-on-empty disk image 0 (well-sized n disk sized some most))
 
 -- ---- in the words of the paper: Condition3.NoRefusal
 
@@ -73,13 +85,13 @@ own-disk native image used f = (
     go own false z = let some = eqb-false used 0 z in eq-eqb (newestIn image used .native) native (same some ∙ own some)
 
 -- THEOREM: a power-on answers 0 exactly where the paper names no refusal.
-pub no-refusal : (r a : List ℕ) (disk : Disk) (image : List ℕ) (used : ℕ) → Bytes image → (powerOnBytes r a (disk .sectors) image used .answer ≡ 0) ↔ NoRefusal r a disk image used
+pub no-refusal : (r a : List ℕ) (disk : Disk) (image : List ℕ) (used : ℕ) → Bytes image → (powerOnBytes r a disk image used .answer ≡ 0) ↔ NoRefusal r a disk image used
 no-refusal r a disk image used bytes =
     let sectors = disk .sectors in
-    let exactly = power-on-exactly r a sectors image used in (
+    let exactly = power-on-exactly r a disk image used in (
       λ e.
           let k = exactly .0 e in
-          let f = readable-form image used bytes (k .4) in
+          let f = readable-form image used bytes (k .5) in
           record {
             recordSized = k .0;
             areaSized = k .1;
@@ -87,9 +99,10 @@ no-refusal r a disk image used bytes =
             diskSized = omega (arith, k .2);
             some = omega (arith, k .2);
             most = omega (arith, k .2);
-            usedWithin = k .3;
+            checkAreaSized = k .3;
+            usedWithin = k .4;
             form = f;
-            ownDisk = own-disk (length sectors / sectorSize) image used f .0 (k .5);
+            ownDisk = own-disk (length sectors / sectorSize) image used f .0 (k .6);
           },
       λ k.
           let size = k .diskSized in
@@ -98,6 +111,7 @@ no-refusal r a disk image used bytes =
             k .recordSized,
             k .areaSized,
             (omega (arith, size), omega (arith, size, k .some), omega (arith, size, k .most)),
+            k .checkAreaSized ∙ ap (λ (n : ℕ). 2 * n) (sym number),
             k .usedWithin,
             form-readable image used (k .form),
             own-disk (length sectors / sectorSize) image used (k .form) .1 (λ some. k .ownDisk some ∙ sym number),

@@ -1,7 +1,7 @@
 -- The record of valid contents decodes to those contents.
 use mathlib.Core.Path.{_≡_, refl, sym, ap, _∙_}
 use mathlib.Core.Bool.{Bool}
-use Prim.Native.Nat.{ℕ, zero, suc, _+_, _^_, _≤_, _<_}
+use Prim.Native.Nat.{ℕ, _+_, _^_, _≤_, _<_}
 use native.Mathlib.Omega.{arith}
 use mathlib.Core.List.{List, [], _∷_, _++_}
 use lib.ListN.{length, getD, length-append}
@@ -15,11 +15,12 @@ use Rattle.wire.proofs.PartsLaws.{part-part, get-part, part-append-right}
 use Rattle.wire.proofs.LayoutLaws.{length-form, reads-form, reads-append, reads-front, fit-append}
 use Rattle.wire.proofs.BytesLaws.{bytes-append, bytes-form}
 use Rattle.model.specs.Sizes.{sectorSize, nativeLimit, historySize}
-use Rattle.model.specs.Device.{Fill, idle, running, Transfer, none, table, fillData, Device, nextSector}
+use Rattle.model.specs.Device.{Fill, idle, running, Transfer, none, table, fillData, readLong, writeLong, Device, nextSector}
 use Rattle.model.specs.Temperature.{tableIntervalPlace, tableIndexPlace, tableHeadSize, tableBytes, tableFields}
-use Rattle.model.specs.Valid.{FillValid, TransferValid, PendingValid, Valid}
+use Rattle.model.specs.Valid.{FillValid, TransferValid, Valid}
 use Rattle.model.proofs.FormatLaws.{TableAt, table-at, table-bytes}
 use Rattle.model.proofs.EntryLaws.{flag-back, length-table}
+use Rattle.model.proofs.ValidRequest.{pending-for}
 use Rattle.store.specs.Areas.{recordSize, headSize}
 use Rattle.store.specs.Record.{Stage, empty, held, answered, Contents, stageNumber, fillKind, fillFirst, fillEnd, transferKind, transferFirst, transferEnd, sizeFields, commandFields, settingsFields, thermalFields, fillFields, slotAt, slotFields, slotOf, slotsFields, headFields, encode, stageOf, fillOf, transferOf, flagOf, stageAt, transferAt, decode}
 
@@ -49,18 +50,13 @@ slot-fits : (visible at : ℕ) (s : Stage) (t : Transfer) → visible ≤ native
 slot-fits visible at s none h v = (stage-fits s, (omega arith, (omega arith, (omega arith, tt))))
 slot-fits visible at s table h v = (stage-fits s, (omega arith, (omega arith, (omega arith, tt))))
 slot-fits visible at s (fillData first end) h v = (stage-fits s, (omega arith, (omega (arith, v .0, v .1), (omega (arith, v .1), tt))))
+slot-fits visible at s (readLong lba) h v = (stage-fits s, (omega arith, (omega arith, (omega arith, tt))))
+slot-fits visible at s (writeLong lba) h v = (stage-fits s, (omega arith, (omega arith, (omega arith, tt))))
 
 fill-fits : (visible : ℕ) (f : Fill) → visible ≤ nativeLimit → FillValid visible f → (fillKind f < 256) × Fit (fillFields f)
 fill-fits visible idle h v = (omega arith, (omega arith, (omega arith, (omega arith, tt))))
 fill-fits visible (running first next end) h v =
     (omega arith, (omega (arith, v .0, v .1, v .2), (omega (arith, v .1, v .2), (omega (arith, v .2), tt))))
-
--- the transfer of a port
-pending-at : (visible : ℕ) (ts : List Transfer) (p : ℕ) → PendingValid visible ts → TransferValid visible (getD ts p none)
-pending-at visible [] zero v = tt
-pending-at visible [] (suc p) v = tt
-pending-at visible (t ∷ ts) zero v = v .0
-pending-at visible (t ∷ ts) (suc p) v = pending-at visible ts p (v .1)
 
 -- slot i's fields, and the groups of the first half, from each group on
 abbrev pub slot : Contents → ℕ → List Field
@@ -92,7 +88,7 @@ module _ (c : Contents) (v : Valid (c .device)) where
   slots-fit =
       let one : (i : ℕ) → Fit (slot c i) =
       λ i. slot-fits (d .visible) (slotAt i) (getD (c .stages) i empty) (getD (d .command .pending) i none) limit
-      (pending-at (d .visible) (d .command .pending) i (v .commandValid .pendingValid)) in
+      (pending-for (d .visible) (d .command .pending) i (v .commandValid .pendingValid)) in
       fit-append (slot c 0) (slot c 1 ++ (slot c 2 ++ slot c 3)) (one 0)
       (fit-append (slot c 1) (slot c 2 ++ slot c 3) (one 1) (fit-append (slot c 2) (slot c 3) (one 2) (one 3)))
 
@@ -247,6 +243,8 @@ transfer-back : (t : Transfer) → transferOf (transferKind t) (transferFirst t)
 transfer-back none = refl
 transfer-back table = refl
 transfer-back (fillData first end) = refl
+transfer-back (readLong lba) = refl
+transfer-back (writeLong lba) = refl
 
 -- a list of length four is its four elements
 pub four-back : {A : Type 0} (l : List A) (x : A) → length l ≡ 4 → getD l 0 x ∷ getD l 1 x ∷ getD l 2 x ∷ getD l 3 x ∷ [] ≡ l

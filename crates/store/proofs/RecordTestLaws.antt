@@ -8,7 +8,7 @@ use mathlib.Core.List.{List, [], _∷_, _++_}
 use lib.ListN.{length, getD, drop, length-take, length-drop, take-append-drop, List·getD-append, List·getD-eq-default}
 use lib.Seq.{take-all}
 use lib.Dec.{eqb, leb, ltb}
-use borrow.Author.Tests.{eqb-true, eq-eqb, ne-eqb, leb-true, le-leb, lt-leb, ltb-true, lt-ltb}
+use borrow.Author.Tests.{eqb-true, eq-eqb, leb-true, le-leb, lt-leb, ltb-true, lt-ltb}
 use Rattle.wire.specs.Choice.{bit}
 use Rattle.wire.specs.Numbers.{get}
 use Rattle.wire.specs.Parts.{part}
@@ -20,12 +20,12 @@ use Rattle.wire.proofs.LayoutLaws.{length-form, reads-both, form-outside}
 use Rattle.wire.proofs.FormUnique.{form-unique}
 use Rattle.wire.proofs.BytesLaws.{bytes-part, all-zero-true, zero-all-true}
 use Rattle.model.specs.Sizes.{sectorSize}
-use Rattle.model.specs.Device.{Fill, idle, running, Transfer, none, table, fillData, nextSector}
+use Rattle.model.specs.Device.{Fill, idle, running, Transfer, none, table, fillData, readLong, writeLong, nextSector}
 use Rattle.model.specs.Temperature.{tableBytes}
 use Rattle.store.specs.Areas.{recordSize, headSize}
 use Rattle.store.specs.Record.{Stage, empty, held, answered, Contents, stageNumber, fillKind, fillFirst, fillEnd, transferKind, transferFirst, transferEnd, sizeFields, commandFields, settingsFields, thermalFields, fillFields, slotAt, slotFields, slotsFields, headFields, encode, stageOf, fillOf, transferOf, flagOf, stageAt, transferAt, decode}
 use Rattle.store.specs.Sound.{deviceSound, sound}
-use Rattle.store.specs.RecordTests.{spareRuns, zeroRuns, flagsNamed, fillNamed, slotNamed, tableFixed, soundInPlace}
+use Rattle.store.specs.RecordTests.{spareRuns, zeroRuns, flagsNamed, fillNamed, transferNamed, slotNamed, tableFixed, soundInPlace}
 use Rattle.store.proofs.RecordLaws.{ContentsFit, valid-fits, length-encode, slot, group-reads, slot-reads, table-part}
 use Rattle.store.proofs.TableInPlace.{implied, table-is, table-fixed}
 use Rattle.store.proofs.SoundLaws.{sound-parts, parts-sound, sound-valid}
@@ -168,10 +168,7 @@ record TransferExact (kind first end : ℕ) : Type 0 where
   firstIs : first ≡ transferFirst (transferOf kind first end)
   endIs : end ≡ transferEnd (transferOf kind first end)
 
-abbrev transferTest : ℕ → ℕ → ℕ → Bool
-transferTest kind first end = eqb kind 2 || (leb kind 1 && eqb first 0 && eqb end 0)
-
-transfer-exact : (kind first end : ℕ) → transferTest kind first end ≡ true → TransferExact kind first end
+transfer-exact : (kind first end : ℕ) → transferNamed kind first end ≡ true → TransferExact kind first end
 transfer-exact zero first end h =
     let w = and-three true (eqb first 0) (eqb end 0) h in
     record { kindIs = refl; firstIs = eqb-true first 0 (w .1); endIs = eqb-true end 0 (w .2) }
@@ -179,14 +176,18 @@ transfer-exact (suc zero) first end h =
     let w = and-three true (eqb first 0) (eqb end 0) h in
     record { kindIs = refl; firstIs = eqb-true first 0 (w .1); endIs = eqb-true end 0 (w .2) }
 transfer-exact (suc (suc zero)) first end h = record { kindIs = refl; firstIs = refl; endIs = refl }
-transfer-exact (suc (suc (suc n))) first end h =
-    let f : false ≡ true = rw (ne-eqb (suc (suc (suc n))) 2 (λ e. omega arith), lt-leb (suc (suc (suc n))) 1 (omega arith)) at h in
+transfer-exact (suc (suc (suc zero))) first end h = record { kindIs = refl; firstIs = refl; endIs = eqb-true end 0 h }
+transfer-exact (suc (suc (suc (suc zero)))) first end h = record { kindIs = refl; firstIs = refl; endIs = eqb-true end 0 h }
+transfer-exact (suc (suc (suc (suc (suc n))))) first end h =
+    let f : false ≡ true = rw (lt-leb (suc (suc (suc (suc (suc n))))) 4 (omega arith)) at h in
     absurd (let z : _≡_ {A = ℕ} 0 1 = cc in omega arith)
 
-transfer-test : (t : Transfer) → transferTest (transferKind t) (transferFirst t) (transferEnd t) ≡ true
+transfer-test : (t : Transfer) → transferNamed (transferKind t) (transferFirst t) (transferEnd t) ≡ true
 transfer-test none = refl
 transfer-test table = refl
 transfer-test (fillData first end) = refl
+transfer-test (readLong lba) = refl
+transfer-test (writeLong lba) = refl
 
 -- ---- from the tests to the record
 
@@ -275,10 +276,10 @@ module _ (r : List ℕ) (b : Bytes r) (size : length r ≡ recordSize) where
   slot-read : (i : ℕ) → i < 4 → slotNamed r i ≡ true → Reads (slotFields (slotAt i) (stageAt r i) (transferAt r i)) head
   unfolding slotNamed
   slot-read i h e =
-      let stage = leb-true (get 1 r (slotAt i)) 2 (and-left (leb (get 1 r (slotAt i)) 2) (transferTest (get 1 r (slotAt i + 1)) (get 8 r (slotAt i + 8)) (get 8 r (slotAt i + 16))) e) in
+      let stage = leb-true (get 1 r (slotAt i)) 2 (and-left (leb (get 1 r (slotAt i)) 2) (transferNamed (get 1 r (slotAt i + 1)) (get 8 r (slotAt i + 8)) (get 8 r (slotAt i + 16))) e) in
       let t =
       transfer-exact (get 1 r (slotAt i + 1)) (get 8 r (slotAt i + 8)) (get 8 r (slotAt i + 16))
-      (and-right (leb (get 1 r (slotAt i)) 2) (transferTest (get 1 r (slotAt i + 1)) (get 8 r (slotAt i + 8)) (get 8 r (slotAt i + 16))) e) in (
+      (and-right (leb (get 1 r (slotAt i)) 2) (transferNamed (get 1 r (slotAt i + 1)) (get 8 r (slotAt i + 8)) (get 8 r (slotAt i + 16))) e) in (
         front 1 (slotAt i) (omega arith) ∙ stage-exact (get 1 r (slotAt i)) stage,
         (
           front 1 (slotAt i + 1) (omega arith) ∙ t .kindIs,
@@ -391,8 +392,8 @@ module _ (r : List ℕ) (b : Bytes r) (same : encode (decode r) ≡ r) (fit : Co
       let s = getD (decode r .stages) i empty in
       let t = getD (decode r .device .command .pending) i none in
       let x = says (slot (decode r) i) e in
-      (λ j. leb (x .0 j) 2 && transferTest (x .1 .0 j) (x .1 .1 .0 j) (x .1 .1 .1 .0 j))
-      ∙ and-both (leb (stageNumber s) 2) (transferTest (transferKind t) (transferFirst t) (transferEnd t)) (le-leb (stageNumber s) 2 (stage-small s)) (transfer-test t)
+      (λ j. leb (x .0 j) 2 && transferNamed (x .1 .0 j) (x .1 .1 .0 j) (x .1 .1 .1 .0 j))
+      ∙ and-both (leb (stageNumber s) 2) (transferNamed (transferKind t) (transferFirst t) (transferEnd t)) (le-leb (stageNumber s) 2 (stage-small s)) (transfer-test t)
 
   slots-hold : (slotNamed r 0 && slotNamed r 1 && (slotNamed r 2 && slotNamed r 3)) ≡ true
   slots-hold =

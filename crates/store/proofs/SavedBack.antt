@@ -1,19 +1,21 @@
 -- A save that answers 0, and then a power-on from that image on that disk, whatever was written to it in between.
 use mathlib.Core.Path.{_≡_, refl, sym, ap, _∙_}
-use Prim.Native.Nat.{ℕ, _+_, _/_}
+use Prim.Native.Nat.{ℕ, _+_}
 use native.Mathlib.Omega.{arith}
 use mathlib.Core.List.{List}
 use lib.ListN.{length}
 use borrow.Author.Tests.{eq-eqb}
 use Rattle.wire.specs.Choice.{firstFailed}
 use Rattle.wire.proofs.ChoiceLaws.{attempt-done, all-pass, pass-all}
-use Rattle.model.specs.Sizes.{sectorSize, entrySize}
+use Rattle.model.specs.Sizes.{entrySize}
 use Rattle.model.specs.Device.{Device}
+use Rattle.model.specs.Disk.{Disk, HasSize}
 use Rattle.model.specs.Image.{savedFrom, savedImage, restored}
 use Rattle.model.specs.Image.{saveChecks as savingChecks}
 use Rattle.model.specs.Step.{save, Seen, Outcome, answeredImage}
 use Rattle.model.specs.Valid.{Valid}
 use Rattle.model.proofs.PowerOnLaws.{KeptRules, kept-rules, power-on-valid}
+use Rattle.model.proofs.DiskSizes.{SameSize, native-size}
 use Rattle.model.proofs.SaveLaws.{saved-fits, saved-ranged, power-on-after-save, restored-saved}
 use Rattle.store.specs.Areas.{recordSize, privateSize}
 use Rattle.store.specs.Record.{Contents, encode, decode}
@@ -45,19 +47,23 @@ module _ (s : Store) (v : StoreValid s) (image : List ℕ) (used : ℕ) (saves :
   saved-is : saved ≡ answeredImage 0 (savedImage device image used) (used + entrySize)
   saved-is = ap (λ (o : Outcome Store). o .seen) (on-done (save image used) s passed)
 
+  -- a disk of the same size has the record's N sectors
+  sizes : (disk : Disk) → SameSize disk (s .disk) → HasSize (device .native) disk
+  sizes disk same = (same .0 ∙ v .disk .sectorsValid .size, same .1 ∙ v .disk .checkAreaValid .size)
+
   -- what is read back is what was saved
-  contents-back : (disk : List ℕ) → length disk ≡ length (s .disk .sectors) → poweredContents disk (saved .image) (saved .used) ≡ restoredContents (savedFrom device)
+  contents-back : (disk : Disk) → SameSize disk (s .disk) → poweredContents disk (saved .image) (saved .used) ≡ restoredContents (savedFrom device)
   contents-back disk same =
-      let native : length disk / sectorSize ≡ device .native = rw (same ∙ v .disk .size) (omega arith) in
+      let native = native-size (device .native) disk (sizes disk same) in
       ap restoredContents
       (rw saved-is
       (ap (λ (n : ℕ). restored n (savedImage device image used) (used + entrySize)) native ∙ restored-saved device image used device-valid checked))
 
-  module _ (r a disk : List ℕ) (size : length r ≡ recordSize) (private : length a ≡ privateSize) (same : length disk ≡ length (s .disk .sectors)) where
+  module _ (r a : List ℕ) (disk : Disk) (size : length r ≡ recordSize) (private : length a ≡ privateSize) (same : SameSize disk (s .disk)) where
     on-passed : firstFailed (powerOnChecks r a disk (saved .image) (saved .used)) ≡ 0
     on-passed =
         rw (saved-is, eq-eqb (length r) recordSize size, eq-eqb (length a) privateSize private)
-        (power-on-after-save device image used device-valid checked disk (same ∙ v .disk .size))
+        (power-on-after-save device image used device-valid checked disk (sizes disk same))
 
     -- THEOREM: the power-on answers 0 ..
     pub power-on-saved : powerOnBytes r a disk (saved .image) (saved .used) .answer ≡ 0

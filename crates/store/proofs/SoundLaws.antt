@@ -14,7 +14,7 @@ use Rattle.wire.proofs.ChoiceLaws.{and-left, and-right, and-three, three-and, b
 use Rattle.wire.proofs.PartsLaws.{length-part}
 use Rattle.wire.proofs.BytesLaws.{bytes-part, get-fits, same-refl, same-true}
 use Rattle.model.specs.Sizes.{nativeLimit, historySize}
-use Rattle.model.specs.Device.{Fill, idle, running, Transfer, none, table, fillData, Device}
+use Rattle.model.specs.Device.{Fill, idle, running, Transfer, none, table, fillData, readLong, writeLong, Device}
 use Rattle.model.specs.Key.{statesNamed}
 use Rattle.model.proofs.StateLaws.{states-ranges, ranges-states}
 use Rattle.model.specs.Temperature.{tableHeadSize}
@@ -46,11 +46,15 @@ transfer-clauses visible none e = tt
 transfer-clauses visible table e = tt
 transfer-clauses visible (fillData first end) e =
     (ltb-true first end (and-left (ltb first end) (leb end visible) e), leb-true end visible (and-right (ltb first end) (leb end visible) e))
+transfer-clauses visible (readLong lba) e = ltb-true lba visible e
+transfer-clauses visible (writeLong lba) e = ltb-true lba visible e
 
 transfer-tests : (visible : ℕ) (t : Transfer) → TransferValid visible t → transferSound visible t ≡ true
 transfer-tests visible none v = refl
 transfer-tests visible table v = refl
 transfer-tests visible (fillData first end) v = rw (lt-ltb first end (v .0), le-leb end visible (v .1))
+transfer-tests visible (readLong lba) v = lt-ltb lba visible v
+transfer-tests visible (writeLong lba) v = lt-ltb lba visible v
 
 pending-clauses : (visible : ℕ) (ts : List Transfer) → pendingSound visible ts ≡ true → PendingValid visible ts
 pending-clauses visible [] e = tt

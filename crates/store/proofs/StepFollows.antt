@@ -16,20 +16,22 @@ use Rattle.wire.proofs.PartsLaws.{part-same, length-zeros}
 use Rattle.wire.proofs.BytesLaws.{bytes-sets, bytes-zeros}
 use Rattle.model.specs.Sizes.{sectorSize, portCount, mailboxSize}
 use Rattle.model.specs.Device.{Fill, idle, running, Device}
-use Rattle.model.specs.Disk.{Disk}
+use Rattle.model.specs.Disk.{Disk, diskOf}
 use Rattle.model.specs.Fill.{Volume, writeSector, interrupt, sectorStep, iterate, workCount}
 use Rattle.model.specs.Fill.{work as workVolume}
 use Rattle.model.specs.Decide.{Serving, Writing, noWrite, oneSector, newFill, Decision, decide}
 use Rattle.model.specs.Perform.{written, volumeAfter, fillSectorAfter, replyOf}
+use Rattle.model.specs.Repair.{repair as repairVolume}
 use Rattle.model.specs.Owner.{setLock}
 use Rattle.model.specs.Owner.{setVisible as setVisibleDevice, sample as sampleDevice}
 use Rattle.model.specs.Image.{powerOn as powerOnDevice}
 use Rattle.model.specs.Machine.{Port, Machine, whileRunning, machine, heldBytes}
 use Rattle.model.specs.Machine.{empty as noRequest}
-use Rattle.model.specs.Step.{OwnerStep, lock, unlock, setVisible, sample, Step, take, serve, give, work, owner, save, powerOn, ownerRule, checks, seenDone, does, served, serveDecided, worked, poweredOn, step}
+use Rattle.model.specs.Step.{OwnerStep, lock, unlock, setVisible, sample, Step, take, serve, give, work, owner, repair, save, powerOn, ownerRule, checks, seenDone, does, served, serveDecided, worked, repaired, poweredOn, step}
 use Rattle.model.specs.Valid.{Sized, DiskValid, Valid, MachineValid, OwnerFed, Fed}
 use Rattle.model.proofs.StepLaws.{step-done, step-refused, answers-numbered}
 use Rattle.model.proofs.OwnerLaws.{interrupt-quiet}
+use Rattle.model.proofs.DiskRepair.{repair-idle, repair-leaves-check-area}
 use Rattle.model.proofs.RequestLaws.{interrupt-kept}
 use Rattle.model.proofs.ValidRequest.{WritingValid, DecisionValid, decide-valid}
 use Rattle.model.proofs.ValidStep.{does-valid, reply-valid, serve-valid}
@@ -40,7 +42,7 @@ use Rattle.store.specs.Entries.{withStage, withDevice, withFillSector, p
 use Rattle.store.specs.OnStore.{store, onStore}
 use Rattle.store.proofs.RecordLaws.{ContentsValid}
 use Rattle.store.proofs.SoundLaws.{sound-parts}
-use Rattle.store.proofs.ExitLaws.{storeChecks, doneStore, doneSeen, on-refused, on-done}
+use Rattle.store.proofs.ExitLaws.{storeChecks, doneStore, doneSeen, sized-passes, on-refused, on-done}
 use Rattle.store.proofs.FollowLaws.{StoreValid, contents-valid, machine-valid, machine-encoded, store-encoded, slot-sized, slot-fill, ports-set, ports-cleared, ports-fill}
 
 -- ---- the fill's sector
@@ -98,14 +100,23 @@ checks-same (serve x) s v =
     rw (
       v .isSound,
       eq-eqb (length (s .privateArea)) privateSize (v .private .size),
-      eq-eqb (length (s .disk .sectors)) _ (v .disk .size),
+      sized-passes (decode (s .recordArea) .device .native) (s .disk) (v .disk .sectorsValid .size, v .disk .checkAreaValid .size),
       held-says (stageFor (x .port) (decode (s .recordArea))) (slotBytes (x .port) (s .privateArea)),
     )
 checks-same (give p m) s v =
     rw (v .isSound, eq-eqb (length (s .privateArea)) privateSize (v .private .size), answered-says (stageFor p (decode (s .recordArea))) (slotBytes p (s .privateArea)))
 checks-same (work n) s v =
-    rw (v .isSound, eq-eqb (length (s .privateArea)) privateSize (v .private .size), eq-eqb (length (s .disk .sectors)) _ (v .disk .size))
+    rw (
+      v .isSound,
+      eq-eqb (length (s .privateArea)) privateSize (v .private .size),
+      sized-passes (decode (s .recordArea) .device .native) (s .disk) (v .disk .sectorsValid .size, v .disk .checkAreaValid .size),
+    )
 checks-same (owner x) s v = rw (v .isSound)
+checks-same (repair lba) s v =
+    rw (
+      v .isSound,
+      sized-passes (decode (s .recordArea) .device .native) (s .disk) (v .disk .sectorsValid .size, v .disk .checkAreaValid .size),
+    )
 checks-same (save image used) s v = rw (v .isSound)
 checks-same (powerOn image used) s v =
     rw (eq-eqb (length (s .recordArea)) recordSize (sound-parts (s .recordArea) (v .isSound) .size), eq-eqb (length (s .privateArea)) privateSize (v .private .size))
@@ -121,19 +132,19 @@ stored-sized a x at v b = record { size = length-sets a at x ∙ v .size; bytes 
 -- the private area's fill sector afterwards
 fill-after : (w : Writing) (d : Device) (b : List ℕ) → WritingValid d w → length b ≡ privateSize → fillSectorOf (withFillSector w b) ≡ fillSectorAfter w (fillSectorOf b)
 fill-after noWrite d b k h = refl
-fill-after (oneSector lba sector) d b k h = refl
+fill-after (oneSector lba x) d b k h = refl
 fill-after (newFill first end sector) d b k h = part-same sector b fillPlace sectorSize (k .2 .size) (omega arith)
 
 -- .. and every slot is unchanged
 ports-after : (w : Writing) (ss : List Stage) (b : List ℕ) → length ss ≡ 4 → (i : ℕ)
     → portOf (getD ss i empty) (slotBytes i (withFillSector w b)) ≡ portOf (getD ss i empty) (slotBytes i b)
 ports-after noWrite ss b h i = refl
-ports-after (oneSector lba sector) ss b h i = refl
+ports-after (oneSector lba x) ss b h i = refl
 ports-after (newFill first end sector) ss b h i = ports-fill ss b sector h i
 
 after-sized : (w : Writing) (d : Device) (b : List ℕ) → WritingValid d w → Sized privateSize b → Sized privateSize (withFillSector w b)
 after-sized noWrite d b k v = v
-after-sized (oneSector lba sector) d b k v = v
+after-sized (oneSector lba x) d b k v = v
 after-sized (newFill first end sector) d b k v = stored-sized b sector fillPlace v (k .2 .bytes)
 
 forgotten : (g f : Fill) (s : List ℕ) → (g ≡ idle) ⊎ (g ≡ f) → whileRunning g s ≡ whileRunning g (whileRunning f s)
@@ -146,7 +157,7 @@ sector-after : (w : Writing) (v : Volume) (s : List ℕ) (f : Fill) → (v .devi
     ≡ whileRunning (written w v .device .command .fill) (fillSectorAfter w (whileRunning f s))
 unfolding writeSector
 sector-after noWrite v s f k = forgotten (v .device .command .fill) f s k
-sector-after (oneSector lba sector) v s f k = forgotten (v .device .command .fill) f s k
+sector-after (oneSector lba x) v s f k = forgotten (v .device .command .fill) f s k
 sector-after (newFill first end sector) v s f k = refl
 
 all-empty : (n i : ℕ) → getD (replicate n empty) i empty ≡ empty
@@ -166,11 +177,11 @@ idle-work n sector v e = ap (λ (k : ℕ). iterate k (sectorStep sector) v) none
 
 -- the bytes after a power-on represent the machine at power-on
 pub powered-store : (disk : Disk) (image : List ℕ) (used : ℕ) → MachineValid (poweredOn disk image used)
-    → StoreValid (store (encode (poweredContents (disk .sectors) image used)) (zeros privateSize) disk)
-    × (machineOf (store (encode (poweredContents (disk .sectors) image used)) (zeros privateSize) disk) ≡ poweredOn disk image used)
+    → StoreValid (store (encode (poweredContents disk image used)) (zeros privateSize) disk)
+    × (machineOf (store (encode (poweredContents disk image used)) (zeros privateSize) disk) ≡ poweredOn disk image used)
 unfolding poweredOn powerOnDevice
 powered-store disk image used w =
-    let c = poweredContents (disk .sectors) image used in
+    let c = poweredContents disk image used in
     let cv : ContentsValid c = record { device = w .deviceValid; four = refl } in (
       store-encoded c (zeros privateSize) disk cv (record { size = length-zeros privateSize; bytes = bytes-zeros privateSize }) (w .diskValid),
       machine-encoded c (zeros privateSize) disk cv
@@ -386,6 +397,28 @@ module _ (s : Store) (v : StoreValid s) where
       let k = device-done (ownerRule x (c .device)) (w .deviceValid) (keeps .0) (keeps .1) in
       record { valid = k .0; same = k .1; seenSame = refl }
 
+  -- ---- repair
+
+  repair-done : (lba : ℕ) → firstFailed (checks (repair lba) M) ≡ 0 → Done (repair lba) s
+  unfolding machineOf repaired
+  repair-done lba e =
+      let x = repairVolume lba (record { device = c .device; disk = s .disk }) in
+      let w = does-valid (repair lba) M tt m-valid e in
+      let cv : ContentsValid (withDevice (x .device) c) = record { device = w .deviceValid; four = four } in
+      -- the check area stays
+      let whole : diskOf (x .disk .sectors) (s .disk .checkArea) ≡ x .disk =
+      ap (diskOf (x .disk .sectors)) (sym (repair-leaves-check-area lba (record { device = c .device; disk = s .disk }))) in
+      let left : Disk → Store = λ disk. store (encode (withDevice (x .device) c)) a disk in
+      record {
+        valid = subst (λ (disk : Disk). StoreValid (left disk)) (sym whole) (store-encoded (withDevice (x .device) c) a (x .disk) cv (v .private) (w .diskValid));
+        same =
+            ap (λ (disk : Disk). machineOf (left disk)) whole
+            ∙ machine-encoded (withDevice (x .device) c) a (x .disk) cv
+            ∙ machine-path (x .device) (fillSectorOf a) (whileRunning (c .device .command .fill) (fillSectorOf a)) _ _ (x .disk)
+            (interrupted (x .device) (repair-idle lba (record { device = c .device; disk = s .disk }))) (λ i. refl);
+        seenSame = refl;
+      }
+
   power-on-done : (image : List ℕ) (used : ℕ) → Bytes image → firstFailed (checks (powerOn image used) M) ≡ 0 → Done (powerOn image used) s
   unfolding machineOf
   power-on-done image used fed e =
@@ -401,6 +434,7 @@ done-follows (serve x) s fed v e = serve-done s v x e
 done-follows (give p m) s fed v e = give-done s v p m e
 done-follows (work n) s fed v e = work-done s v n
 done-follows (owner x) s fed v e = owner-done s v x fed e
+done-follows (repair lba) s fed v e = repair-done s v lba e
 done-follows (save image used) s fed v e = record { valid = v; same = refl; seenSame = unfold machineOf in refl }
 done-follows (powerOn image used) s fed v e = power-on-done s v image used fed e
 

@@ -14,7 +14,7 @@ use Rattle.wire.proofs.NumbersLaws.{getD-sets-before, getD-sets-after}
 use Rattle.model.specs.Sizes.{portCount, mailboxSize}
 use Rattle.model.specs.Decide.{Serving, Writing, noWrite, oneSector, newFill, Decision, decide}
 use Rattle.model.specs.Perform.{volumeAfter, replyOf}
-use Rattle.model.specs.Step.{OwnerStep, Step, take, serve, give, work, owner, save, powerOn}
+use Rattle.model.specs.Step.{OwnerStep, Step, take, serve, give, work, owner, repair, save, powerOn}
 use Rattle.store.specs.Areas.{recordSize, slotSize, slotPlace, fillPlace, privateSize}
 use Rattle.store.specs.Record.{decode}
 use Rattle.store.specs.Store.{Store, slotBytes}
@@ -26,8 +26,8 @@ use Rattle.store.proofs.FollowLaws.{StoreValid, contents-valid, slot-si
 use Rattle.store.proofs.StepFollows.{answer-sized}
 use Rattle.store.proofs.AnswerLaws.{entry-answer}
 
--- "four slots of 528, then the fill sector"; "The device record crosses as 1,024 bytes"
-pub area-places : (p : ℕ) → (slotPlace p ≡ 528 * p) × (fillPlace ≡ 2112) × (privateSize ≡ 2624) × (recordSize ≡ 1024)
+-- "four slots of 528, then the fill sector"; W-202: "slots grow to 1,040 bytes, the private area to 4,672"; "The device record crosses as 1,024 bytes"
+pub area-places : (p : ℕ) → (slotPlace p ≡ 1040 * p) × (fillPlace ≡ 4160) × (privateSize ≡ 4672) × (recordSize ≡ 1024)
 area-places p = (refl, refl, refl, refl)
 
 passed : (x : Step) (s : Store) → onStore x s .seen .answer ≡ 0 → firstFailed (storeChecks x s) ≡ 0
@@ -49,7 +49,7 @@ take-leaves p m s i answers out =
     let size = eqb-true (length m) mailboxSize (all-pass 8 (storeChecks (take p m) s) (omega arith) e .1 .0) in
     rw (on-done (take p m) s e) (slot-stored (s .privateArea) m p i size out)
 
--- give, work, the owner steps and save: the whole private area is unchanged
+-- give, work, the owner steps, repair and save: the whole private area is unchanged
 pub record PrivateKept (x : Step) (s : Store) : Type 0 where
   pub kept : onStore x s .state .privateArea ≡ s .privateArea
 
@@ -65,6 +65,15 @@ pub owner-leaves : (x : OwnerStep) (s : Store) → PrivateKept (owner x) s
 unfolding onStore
 owner-leaves x s = record { kept = refl }
 
+pub repair-leaves : (lba : ℕ) (s : Store) → PrivateKept (repair lba) s
+unfolding onStore
+repair-leaves lba s = record { kept = refl }
+
+-- a repair does not change the check area
+pub repair-leaves-check-area : (lba : ℕ) (s : Store) → onStore (repair lba) s .state .disk .checkArea ≡ s .disk .checkArea
+unfolding onStore
+repair-leaves-check-area lba s = refl
+
 -- save: record, private area and disk are unchanged
 pub save-leaves : (image : List ℕ) (used : ℕ) (s : Store) → onStore (save image used) s .state ≡ s
 unfolding onStore
@@ -77,23 +86,23 @@ owner-disk x s = refl
 
 -- "private area all zeros"
 pub power-on-zeroes : (image : List ℕ) (used : ℕ) (s : Store) → onStore (powerOn image used) s .seen .answer ≡ 0
-    → onStore (powerOn image used) s .state .privateArea ≡ zeros 2624
+    → onStore (powerOn image used) s .state .privateArea ≡ zeros 4672
 power-on-zeroes image used s answers = rw (on-done (powerOn image used) s (passed (powerOn image used) s answers))
 
 -- serve: the other slots are unchanged, and so is the fill sector unless a fill begins
 abbrev pub BeginsFill : Writing → Type 0
 BeginsFill noWrite = ⊥
-BeginsFill (oneSector lba sector) = ⊥
+BeginsFill (oneSector lba x) = ⊥
 BeginsFill (newFill first end sector) = Unit {0}
 
 fill-left : (w : Writing) (b : List ℕ) → (BeginsFill w → ⊥) → withFillSector w b ≡ b
 fill-left noWrite b ne = refl
-fill-left (oneSector lba sector) b ne = refl
+fill-left (oneSector lba x) b ne = refl
 fill-left (newFill first end sector) b ne = absurd (ne tt)
 
 fill-before : (w : Writing) (b : List ℕ) (i : ℕ) → i < fillPlace → getD (withFillSector w b) i 0 ≡ getD b i 0
 fill-before noWrite b i h = refl
-fill-before (oneSector lba sector) b i h = refl
+fill-before (oneSector lba x) b i h = refl
 fill-before (newFill first end sector) b i h = getD-sets-before sector b fillPlace i h
 
 module _ (x : Serving) (s : Store) (v : StoreValid s) (answers : onStore (serve x) s .seen .answer ≡ 0) where

@@ -3,15 +3,12 @@ use Prim.Native.Nat.{ℕ, _+_, _*_}
 use mathlib.Core.List.{List}
 use Rattle.model.specs.Sizes.{sectorSize, portCount, mailboxSize}
 
--- the bytes of the device record, of the private area and of the disk
+-- the bytes of the device record and of the private area
 abbrev pub Record : Type 0
 Record = List ℕ
 
 abbrev pub Area : Type 0
 Area = List ℕ
-
-abbrev pub Sectors : Type 0
-Sectors = List ℕ
 
 -- "The device record crosses as 1,024 bytes in a layout that the team fixes in docs/." (docs/record-layout.md)
 abbrev pub recordSize : ℕ
@@ -21,7 +18,7 @@ recordSize = 1024
 abbrev pub headSize : ℕ
 headSize = 512
 
--- "Private area, 2,624 bytes: four slots of 528, then the fill sector."
+-- "Private area, 2,624 bytes: four slots of 528, then the fill sector.": 4,672 bytes since W-202, with slots of 1,040
 abbrev pub slotSize : ℕ
 slotSize = mailboxSize
 

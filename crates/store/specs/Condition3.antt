@@ -4,7 +4,7 @@ use mathlib.Core.Logic.{_↔_}
 use Prim.Native.Nat.{ℕ, _*_, _≤_}
 use mathlib.Core.List.{List, [], _∷_, map}
 use lib.ListN.{length}
-use Rattle.model.specs.Sizes.{sectorSize, nativeLimit}
+use Rattle.model.specs.Sizes.{sectorSize, checkSize, nativeLimit}
 use Rattle.model.specs.Disk.{Disk, hiddenPart}
 use Rattle.model.specs.ImageForm.{ImageForm}
 use Rattle.model.specs.Machine.{Machine}
@@ -34,7 +34,7 @@ HiddenKept (x ∷ xs) s = keptHidden s (onStore x s .state) × HiddenKept xs (on
 -- the bytes after a first power-on, whatever the record and the private area held
 abbrev pub started : Record → Area → Disk → Image → ℕ → Store
 started r a disk image used =
-    let o = powerOnBytes r a (disk .sectors) image used in
+    let o = powerOnBytes r a disk image used in
     store (o .recordArea) (o .privateArea) disk
 
 -- "as it must wherever our first paper names no refusal": what that paper asks of a power-on
@@ -47,6 +47,8 @@ pub record NoRefusal (r : Record) (a : Area) (disk : Disk) (image : Image) (used
   pub diskSized : length (disk .sectors) ≡ sectorSize * native
   pub some : 1 ≤ native
   pub most : native ≤ nativeLimit
+  -- W-202: "a lent check area, two bytes a sector"
+  pub checkAreaSized : length (disk .checkArea) ≡ checkSize * native
   -- "an image's used length exceeds its buffer"
   pub usedWithin : used ≤ length image
   -- "image not readable by the rules below"
@@ -66,10 +68,10 @@ pub record FollowsMachine (r : Record) (a : Area) (disk : Disk) (image : Image) 
 -- "Start with a power-on that answers 0, as it must wherever our first paper names no refusal, on any disk and image. Consider every list of
 -- our steps after it: .. refused ones included, in any order, with any inputs".
 pub record StartsAndFollows (r : Record) (a : Area) (disk : Disk) (image : Image) (used : ℕ) : Type 0 where
-  pub answersZero : (powerOnBytes r a (disk .sectors) image used .answer ≡ 0) ↔ NoRefusal r a disk image used
-  pub followed : powerOnBytes r a (disk .sectors) image used .answer ≡ 0 → (xs : List Step) → Each Fed xs → FollowsMachine r a disk image used xs
+  pub answersZero : (powerOnBytes r a disk image used .answer ≡ 0) ↔ NoRefusal r a disk image used
+  pub followed : powerOnBytes r a disk image used .answer ≡ 0 → (xs : List Step) → Each Fed xs → FollowsMachine r a disk image used xs
 
 -- CONDITION 3. Nothing is required of the old record and private area; of disk, image and what is fed, only that bytes are bytes.
 abbrev pub Condition3 : Type 0
 Condition3 =
-    (r : Record) (a : Area) (disk : Disk) (image : Image) (used : ℕ) → Bytes (disk .sectors) → Bytes image → StartsAndFollows r a disk image used
+    (r : Record) (a : Area) (disk : Disk) (image : Image) (used : ℕ) → Bytes (disk .sectors) → Bytes (disk .checkArea) → Bytes image → StartsAndFollows r a disk image used

@@ -9,7 +9,7 @@ use Rattle.wire.specs.Numbers.{get}
 use Rattle.wire.specs.Parts.{part}
 use Rattle.wire.specs.Layout.{Field, form}
 use Rattle.model.specs.Sizes.{historySize}
-use Rattle.model.specs.Device.{Fill, idle, running, Transfer, none, table, fillData, Command, Settings, Thermal, Device, nextSector}
+use Rattle.model.specs.Device.{Fill, idle, running, Transfer, none, table, fillData, readLong, writeLong, Command, Settings, Thermal, Device, nextSector}
 use Rattle.model.specs.Temperature.{tableIntervalPlace, tableIndexPlace, tableHeadSize, tableBytes}
 use Rattle.store.specs.Areas.{headSize}
 use Rattle.store.specs.Areas.{Record}
@@ -52,16 +52,23 @@ abbrev pub transferKind : Transfer → ℕ
 transferKind none = 0
 transferKind table = 1
 transferKind (fillData first end) = 2
+transferKind (readLong lba) = 3
+transferKind (writeLong lba) = 4
 
+-- its first sector, or its one sector
 abbrev pub transferFirst : Transfer → ℕ
 transferFirst none = 0
 transferFirst table = 0
 transferFirst (fillData first end) = first
+transferFirst (readLong lba) = lba
+transferFirst (writeLong lba) = lba
 
 abbrev pub transferEnd : Transfer → ℕ
 transferEnd none = 0
 transferEnd table = 0
 transferEnd (fillData first end) = end
+transferEnd (readLong lba) = 0
+transferEnd (writeLong lba) = 0
 
 -- ---- the layout of the first half, group by group
 
@@ -131,7 +138,12 @@ abbrev pub fillOf : ℕ → ℕ → ℕ → ℕ → Fill
 fillOf kind first next end = if eqb kind 1 then running first next end else idle
 
 abbrev pub transferOf : ℕ → ℕ → ℕ → Transfer
-transferOf kind first end = if eqb kind 1 then table else if eqb kind 2 then fillData first end else none
+transferOf kind first end =
+    if eqb kind 1 then table
+    else if eqb kind 2 then fillData first end
+    else if eqb kind 3 then readLong first
+    else if eqb kind 4 then writeLong first
+    else none
 
 abbrev pub flagOf : ℕ → Bool
 flagOf n = eqb n 1

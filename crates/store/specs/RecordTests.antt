@@ -30,11 +30,14 @@ flagsNamed r = leb (get 1 r 16) 1 && leb (get 1 r 17) 1 && leb (get 1 r 34) 1 &&
 unfoldable pub fillNamed : Record → Bool
 fillNamed r = eqb (get 1 r 18) 1 || (eqb (get 1 r 18) 0 && eqb (get 8 r 48) 0 && (eqb (get 8 r 56) 0 && eqb (get 8 r 64) 0))
 
--- slot i: a named stage and kind; the transfer's numbers are 0 unless it is a fill's
+-- a named kind of transfer; none and the table (0 and 1) have no first sector, and only a fill (2) has an end: their numbers are 0
+abbrev pub transferNamed : ℕ → ℕ → ℕ → Bool
+transferNamed kind first end = leb kind 4 && (leb 2 kind || eqb first 0) && (eqb kind 2 || eqb end 0)
+
+-- slot i: a named stage, and its transfer
 unfoldable pub slotNamed : Record → ℕ → Bool
 slotNamed r i =
-    leb (get 1 r (slotAt i)) 2
-    && (eqb (get 1 r (slotAt i + 1)) 2 || (leb (get 1 r (slotAt i + 1)) 1 && eqb (get 8 r (slotAt i + 8)) 0 && eqb (get 8 r (slotAt i + 16)) 0))
+    leb (get 1 r (slotAt i)) 2 && transferNamed (get 1 r (slotAt i + 1)) (get 8 r (slotAt i + 8)) (get 8 r (slotAt i + 16))
 
 -- the fixed bytes of a temperature table at a place of a run
 unfoldable pub tableFixed : List ℕ → ℕ → Bool

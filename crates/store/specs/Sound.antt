@@ -6,7 +6,7 @@ use lib.ListN.{length}
 use lib.Dec.{eqb, leb, ltb}
 use Rattle.wire.specs.Bytes.{same}
 use Rattle.model.specs.Sizes.{nativeLimit, historySize}
-use Rattle.model.specs.Device.{Fill, idle, running, Transfer, none, table, fillData, Command, Settings, Device}
+use Rattle.model.specs.Device.{Fill, idle, running, Transfer, none, table, fillData, readLong, writeLong, Command, Settings, Device}
 use Rattle.model.specs.Key.{statesNamed}
 use Rattle.model.specs.Fill.{runningCode}
 use Rattle.model.specs.Valid.{pendingCount, pendingLimit}
@@ -19,11 +19,13 @@ abbrev pub fillSound : ℕ → ℕ → Fill → Bool
 fillSound visible code idle = not (eqb code runningCode)
 fillSound visible code (running first next end) = eqb code runningCode && leb first next && ltb next end && leb end visible
 
--- "an owed fill has first < end ≤ V"
+-- "an owed fill has first < end ≤ V"; W-202: "In a sound record an owed Long transfer has its LBA below V."
 abbrev pub transferSound : ℕ → Transfer → Bool
 transferSound visible none = true
 transferSound visible table = true
 transferSound visible (fillData first end) = ltb first end && leb end visible
+transferSound visible (readLong lba) = ltb lba visible
+transferSound visible (writeLong lba) = ltb lba visible
 
 abbrev pub pendingSound : ℕ → List Transfer → Bool
 pendingSound visible [] = true

@@ -1,4 +1,4 @@
--- The three buffers that each step passes on to the next, and the machine that they represent.
+-- What each step passes on to the next, record, private area and disk with its check area, and the machine that they represent.
 use Prim.Native.Nat.{ℕ}
 use mathlib.Core.List.{List}
 use lib.ListN.{getD}

@@ -11,12 +11,12 @@ use lib.Seq.{sets, ext-getD}
 use lib.Dec.{leb, ltb}
 use borrow.Author.Tests.{leb-true, lt-ltb, le-ltb, le-leb, lt-leb}
 use Rattle.wire.specs.Numbers.{le, get, put}
-use Rattle.wire.specs.Parts.{zeros}
+use Rattle.wire.specs.Parts.{part, zeros}
 use Rattle.wire.specs.Layout.{Field, stores, form, ordered, Reads, outside}
 use Rattle.wire.specs.Bytes.{Bytes}
 use Rattle.wire.proofs.ChoiceLaws.{and-left, and-right}
 use Rattle.wire.proofs.NumbersLaws.{getD-sets-before, getD-sets-after, getD-sets-in, length-le, length-put}
-use Rattle.wire.proofs.PartsLaws.{length-zeros, getD-zeros}
+use Rattle.wire.proofs.PartsLaws.{length-part, length-zeros, getD-zeros, getD-part}
 use Rattle.wire.proofs.LayoutLaws.{length-form, ordered-end}
 
 -- the bytes of a number that is read are the bytes at its place
@@ -35,6 +35,13 @@ le-get (suc k) s at (suc j) b h =
 
     shift : (a j : ℕ) → suc a + j ≡ a + suc j
     shift a j = omega arith
+
+-- a number's bytes are the bytes that it was read from
+pub le-part : (k : ℕ) (l : List ℕ) (at : ℕ) → Bytes l → at + k ≤ length l → le k (get k l at) ≡ part l at k
+le-part k l at b h =
+    ext-getD 0 (le k (get k l at)) (part l at k) (length-le k (get k l at) ∙ sym (length-part l at k h)) (λ j q.
+    let below : j < k = rw (length-le k (get k l at)) at q in
+    le-get k l at j b below ∙ sym (getD-part l at k j below))
 
 -- one byte of a number that is stored
 put-in : (w : ℕ) (z : List ℕ) (at v i : ℕ) → at + w ≤ length z → at ≤ i → i < at + w → getD (put w z at v) i 0 ≡ getD (le w v) (i - at) 0

@@ -1,14 +1,14 @@
 -- Laws of parts of runs of bytes.
 use mathlib.Core.Path.{_≡_, refl, sym, ap, _∙_}
-use Prim.Native.Nat.{ℕ, zero, suc, _+_, _-_, _*_, _≤_, _<_}
-use native.Mathlib.Nat.{suc-add, add-suc, zero-add, add-zero, mul-zero}
+use Prim.Native.Nat.{ℕ, zero, suc, _+_, _-_, _*_, _^_, _≤_, _<_}
+use native.Mathlib.Nat.{suc-add, add-suc, zero-add, add-zero, mul-comm, mul-zero}
 use native.Mathlib.Omega.{arith}
 use mathlib.Core.List.{List, [], _∷_, _++_, append-assoc, append-nil}
-use lib.ListN.{length, getD, set, take, drop, length-append, length-take, length-drop, length-replicate, length-set}
+use lib.ListN.{length, getD, set, take, drop, length-append, length-take, length-drop, length-replicate, length-set, replicate-append-replicate}
 use lib.Seq.{take-nil, take-at, drop-at, length-take-le, take-all, drop-set-lt, take-set-le, take-set-lt, drop-set-add, take-take, drop-drop, getD-take, getD-drop, sets, sets-eq, length-sets, take-append-le, drop-append-le, drop-append-add}
 use Rattle.wire.specs.Numbers.{le, get, put}
 use Rattle.wire.specs.Parts.{part, zeros, padded, repeated}
-use Rattle.wire.proofs.NumbersLaws.{get-agree, length-le}
+use Rattle.wire.proofs.NumbersLaws.{get-agree, get-put, length-le}
 
 -- ---- length, and one byte
 
@@ -152,6 +152,12 @@ unfolding repeated
 repeated-snoc zero l = sym (append-nil l)
 repeated-snoc (suc n) l = rw (append-assoc, repeated-snoc n l)
 
+-- .. and stored where the earlier ones end
+pub repeat-more : (d p : List ℕ) (at size k : ℕ) → length p ≡ size → sets (sets d at (repeated k p)) (at + size * k) p ≡ sets d at (repeated (suc k) p)
+repeat-more d p at size k e =
+    let far : size * k ≡ length (repeated k p) = rw (length-repeated k p, e) (mul-comm size k) in
+    rw far (sym (sets-append (repeated k p) p d at)) ∙ ap (sets d at) (repeated-snoc k p)
+
 -- each of the n runs is l
 pub part-repeated : (n : ℕ) (l : List ℕ) (size j : ℕ) → length l ≡ size → j < n → part (repeated n l) (size * j) size ≡ l
 unfolding repeated
@@ -175,3 +181,38 @@ part-whole l n e = ap (λ (m : List ℕ). part m 0 n) (sym (append-nil l)) ∙ p
 pub sets-whole : (vs l : List ℕ) (n : ℕ) → length vs ≡ n → length l ≡ n → sets l 0 vs ≡ vs
 sets-whole vs l n v e =
     sym (part-whole (sets l 0 vs) n (length-sets l 0 vs ∙ e)) ∙ part-same vs l 0 n v (omega (arith, e))
+
+-- ---- zeros, and bytes stored over them
+
+drop-zeros : (k n : ℕ) → k ≤ n → drop k (zeros n) ≡ zeros (n - k)
+drop-zeros k n h =
+    let whole : n ≡ k + (n - k) = omega arith in
+    ap (λ (m : ℕ). drop k (zeros m)) whole
+    ∙ ap (drop k) (sym (replicate-append-replicate k (n - k) 0))
+    ∙ drop-at (zeros k) (zeros (n - k)) k (length-zeros k)
+
+pub sets-zeros : (s : List ℕ) (n : ℕ) → length s ≤ n → sets (zeros n) 0 s ≡ padded n s
+unfolding padded
+sets-zeros s n h =
+    sets-eq s (zeros n) 0 (rw (length-zeros n, zero-add (length s)) h)
+    ∙ ap (λ (k : ℕ). s ++ drop k (zeros n)) (zero-add (length s))
+    ∙ ap (λ (l : List ℕ). s ++ l) (drop-zeros (length s) n h)
+
+-- zeros padded with zeros
+pub padded-zeros : (k n : ℕ) → k ≤ n → padded n (zeros k) ≡ zeros n
+unfolding padded
+padded-zeros k n h =
+    let whole : k + (n - k) ≡ n = omega arith in
+    rw (length-zeros k) (replicate-append-replicate k (n - k) 0 ∙ ap zeros whole)
+
+-- ---- a number by its bytes
+
+get-le : (k v : ℕ) → v < 256 ^ k → get k (le k v) 0 ≡ v
+unfolding put
+get-le k v h =
+    ap (λ (l : List ℕ). get k l 0) (sym (sets-whole (le k v) (zeros k) k (length-le k v) (length-zeros k)))
+    ∙ get-put k (zeros k) 0 v (omega (arith, length-zeros k)) h
+
+-- the number whose bytes are in a run
+pub part-number : (k : ℕ) (l : List ℕ) (at v : ℕ) → v < 256 ^ k → part l at k ≡ le k v → get k l at ≡ v
+part-number k l at v h e = sym (number-first k l at k (omega arith) refl) ∙ ap (λ (p : List ℕ). get k p 0) e ∙ get-le k v h

@@ -9,11 +9,11 @@ use Rattle.desk.proofs.all.Tie as tie
 
 -- the buffers keep their lengths
 abbrev Inv-loop : tie.InvT-loop
-Inv-loop device₀ area₀ disk₀ done₀ device area disk done =
-    (length device ≡ 1024) × (length device ≡ length device₀) × (length area ≡ length area₀) × (length disk ≡ length disk₀)
+Inv-loop device₀ area₀ disk₀ checks₀ done₀ device area disk checks done =
+    (length device ≡ 1024) × (length device ≡ length device₀) × (length area ≡ length area₀) × (length disk ≡ length disk₀) × (length checks ≡ length checks₀)
 
 abbrev μ-loop : tie.MeasureT-loop
-μ-loop device₀ area₀ disk₀ done₀ device area disk done = 18446744073709551615 - done
+μ-loop device₀ area₀ disk₀ checks₀ done₀ device area disk checks done = 18446744073709551615 - done
 
 returns : tie.Need-returns Inv-loop μ-loop
 returns c = search needs
@@ -36,7 +36,9 @@ all-spec =
     (λ c. search needs)
     (λ c. search needs)
     (λ c. search needs)
+    (λ c. search needs)
     returns
+    (λ c. search needs)
     (λ c. search needs)
     (λ c. search needs)
     (λ c. search needs)

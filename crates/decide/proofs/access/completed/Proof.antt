@@ -30,6 +30,20 @@ returns-3 c =
     let a = entry .args in
     λ m. rw (at-t .t .given .1) (says-decided m (λ x. x) (λ x. good 0 0) _ (a .d) (a .d) _ _ (c .to-write .ensures) (unchanged (a .d)) (λ h. refl))
 
+returns-4 : tie.Need-returns-4
+returns-4 c =
+    let at-t2 = c .before .before in
+    let entry = at-t2 .before .before in
+    let a = entry .args in
+    λ m. rw (at-t2 .t2 .given .1) (says-decided m (λ x. x) (λ x. good 0 0) _ (a .d) (a .d) _ _ (c .to-send2 .ensures) (unchanged (a .d)) (λ h. refl))
+
+returns-5 : tie.Need-returns-5
+returns-5 c =
+    let at-t3 = c .before .before in
+    let entry = at-t3 .before .before in
+    let a = entry .args in
+    λ m. rw (at-t3 .t3 .given .1) (says-decided m (λ x. x) (λ x. good 0 0) _ (a .d) (a .d) _ _ (c .to-write2 .ensures) (unchanged (a .d)) (λ h. refl))
+
 pub completed-spec : {M : Type 1} → statement M
 completed-spec =
     tie.close
@@ -41,6 +55,12 @@ completed-spec =
     (λ c κs. search needs)
     (λ c. search needs)
     (λ c κs. search needs)
+    (λ c. search needs)
+    (λ c κs. search needs)
+    (λ c. search needs)
+    (λ c κs. search needs)
     returns
     returns-2
-    returns-3)
+    returns-3
+    returns-4
+    returns-5)

@@ -10,9 +10,9 @@ returns : tie.Need-returns
 returns c =
     let at-put-report = c .before .before in
     let at-code-at = at-put-report .before .before .before .before in
-    let at-exchange = at-code-at .before .before .before .before .before .before .before .before .before .before in
+    let at-exchange = at-code-at .before .before .before .before .before .before .before .before .before .before .before .before in
     let t = at-exchange .exchange .ensures in
-    let entry = at-exchange .before .before .before .before .before .before .before .before .before .before in
+    let entry = at-exchange .before .before .before .before .before .before .before .before .before .before .before .before in
     let number = entry .args .number in (
       wrote-begins (at-put-report .put-report .ensures .1) (omega (arith, at-put-report .put-report .ensures .0, entry .pre .0)),
       (
@@ -30,6 +30,7 @@ turn-spec =
     (λ c. search needs)
     (λ c. search needs)
     (λ c κs. search needs)
+    (λ c. search needs)
     (λ c. search needs)
     (λ c. search needs)
     (λ c. search needs)

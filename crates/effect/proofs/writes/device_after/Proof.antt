@@ -11,10 +11,13 @@ returns-2 : tie.Need-returns-2
 returns-2 c = λ m. rw (c .before .enum-told2 .given .1) (c .with-flag-cleared .ensures)
 
 returns-3 : tie.Need-returns-3
-returns-3 c = λ m. rw (c .before .before .writes .given .1) (c .start-fill .ensures)
+returns-3 c = λ m. rw (c .before .enum-told3 .given .1) (c .with-flag-cleared2 .ensures)
 
 returns-4 : tie.Need-returns-4
-returns-4 c = λ m. rw (c .before .before .writes2 .given .1) (c .start-fill2 .ensures)
+returns-4 c = λ m. rw (c .before .before .writes .given .1) (c .start-fill .ensures)
+
+returns-5 : tie.Need-returns-5
+returns-5 c = λ m. rw (c .before .before .writes2 .given .1) (c .start-fill2 .ensures)
 
 pub device-after-spec : {M : Type 1} → statement M
 device-after-spec =
@@ -27,7 +30,10 @@ device-after-spec =
     (λ c κs. search needs)
     (λ c. search needs)
     (λ c κs. search needs)
+    (λ c. search needs)
+    (λ c κs. search needs)
     returns
     returns-2
     returns-3
-    returns-4)
+    returns-4
+    returns-5)

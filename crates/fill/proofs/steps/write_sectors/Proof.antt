@@ -6,8 +6,7 @@ use native.Mathlib.Omega.{arith}
 use lib.ListN.{length}
 use lib.Seq.{sets, length-sets}
 use Rattle.wire.specs.Parts.{repeated}
-use Rattle.runs.proofs.RunLaws.{repeat-more}
-use Rattle.wire.proofs.PartsLaws.{length-part}
+use Rattle.wire.proofs.PartsLaws.{length-part, repeat-more}
 use Rattle.model.specs.Sizes.{sectorSize}
 use Rattle.store.specs.Store.{fillSectorOf}
 use Rattle.store.specs.Areas.{fillPlace}

@@ -2,7 +2,7 @@
 use Rattle.wire.proofs.ChoiceLaws.{passed, failed}
 use borrow.Author.Tests.{eq-eqb, ne-eqb}
 use mathlib.Core.Path.{_∙_, sym}
-use Rattle.model.specs.Key.{setTimer, timerName}
+use Rattle.model.specs.Key.{setTimer, directionOf}
 use Rattle.key.proofs.VerdictLaws.{timer-refused}
 use borrow.Author.Needs.{needs}
 use Rattle.key.proofs.key.timer_key.Statement.{statement}
@@ -27,28 +27,28 @@ returns-3 c =
     λ k f n t.
     let a = entry .args in
     rw (f, passed (at-between .between .ensures) (at-if1 .if1 .left), n, passed (at-between2 .between2 .ensures) (at-if2 .if2 .left), eq-eqb _ _ (at-if3 .if3 .taken), t, sym (at-between3 .between3 .ensures) ∙ at-if4 .if4 .taken)
-    (timer-refused (a .name) (c .timer-code .result) (setTimer (timerName (a .name)) (a .time)) (c .timer-code .ensures))
+    (timer-refused (a .name) (c .timer-code .result) (setTimer (directionOf (a .name)) (a .time)) (c .timer-code .ensures))
 
 returns-4 : tie.Need-returns-4
 returns-4 c =
     let at-between3 = c .before in
     let at-if3 = at-between3 .before in
-    let at-timer-name = at-if3 .before in
-    let at-if2 = at-timer-name .before in
+    let at-direction-of = at-if3 .before in
+    let at-if2 = at-direction-of .before in
     let at-between2 = at-if2 .before in
     let at-if1 = at-between2 .before in
     let at-between = at-if1 .before in
     λ k f n t.
-    rw (f, passed (at-between .between .ensures) (at-if1 .if1 .left), n, passed (at-between2 .between2 .ensures) (at-if2 .if2 .left), eq-eqb _ _ (at-if3 .if3 .taken), t, sym (at-between3 .between3 .ensures) ∙ c .if4 .left, at-timer-name .timer-name .ensures)
+    rw (f, passed (at-between .between .ensures) (at-if1 .if1 .left), n, passed (at-between2 .between2 .ensures) (at-if2 .if2 .left), eq-eqb _ _ (at-if3 .if3 .taken), t, sym (at-between3 .between3 .ensures) ∙ c .if4 .left, at-direction-of .direction-of .ensures)
 
 returns-5 : tie.Need-returns-5
 returns-5 c =
-    let at-timer-name = c .before in
-    let at-if2 = at-timer-name .before in
+    let at-direction-of = c .before in
+    let at-if2 = at-direction-of .before in
     let at-between2 = at-if2 .before in
     let at-if1 = at-between2 .before in
     let at-between = at-if1 .before in
-    λ k f n t. rw (f, passed (at-between .between .ensures) (at-if1 .if1 .left), n, passed (at-between2 .between2 .ensures) (at-if2 .if2 .left), ne-eqb _ _ (c .if3 .left), at-timer-name .timer-name .ensures)
+    λ k f n t. rw (f, passed (at-between .between .ensures) (at-if1 .if1 .left), n, passed (at-between2 .between2 .ensures) (at-if2 .if2 .left), ne-eqb _ _ (c .if3 .left), at-direction-of .direction-of .ensures)
 
 pub timer-key-spec : {M : Type 1} → statement M
 timer-key-spec =

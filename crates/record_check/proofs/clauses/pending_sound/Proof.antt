@@ -8,33 +8,25 @@ use Rattle.record_check.proofs.clauses.pending_sound.Tie as tie
 returns : tie.Need-returns
 unfolding decode
 returns c =
-    let at-count-of3 = c .before in
-    let at-count-of2 = at-count-of3 .before in
-    let at-count-of = at-count-of2 .before in
-    let at-transfer-sound4 = at-count-of .before in
-    let at-transfer-sound3 = at-transfer-sound4 .before in
-    let at-transfer-sound2 = at-transfer-sound3 .before in
-    let at-transfer-sound = at-transfer-sound2 .before in
-    let at-transfer-at4 = at-transfer-sound .before in
-    let at-transfer-at3 = at-transfer-at4 .before in
-    let at-transfer-at2 = at-transfer-at3 .before in
-    let at-transfer-at = at-transfer-at2 .before in
-    let entry = at-transfer-at .before .before in
+    let at-port-count3 = c .before in
+    let at-port-count2 = at-port-count3 .before in
+    let at-port-count = at-port-count2 .before in
+    let at-port-sound4 = at-port-count .before in
+    let at-port-sound3 = at-port-sound4 .before in
+    let at-port-sound2 = at-port-sound3 .before in
+    let at-port-sound = at-port-sound2 .before in
+    let entry = at-port-sound .before .before in
     let a = entry .args in
     let r = a .device .now in
     rw (
-      at-transfer-sound .transfer-sound .ensures,
-      at-transfer-sound2 .transfer-sound2 .ensures,
-      at-transfer-sound3 .transfer-sound3 .ensures,
-      at-transfer-sound4 .transfer-sound4 .ensures,
-      at-count-of .count-of .ensures .0,
-      at-count-of2 .count-of2 .ensures .0,
-      at-count-of3 .count-of3 .ensures .0,
-      c .count-of4 .ensures .0,
-      at-transfer-at .transfer-at .ensures,
-      at-transfer-at2 .transfer-at2 .ensures,
-      at-transfer-at3 .transfer-at3 .ensures,
-      at-transfer-at4 .transfer-at4 .ensures,
+      at-port-sound .port-sound .ensures,
+      at-port-sound2 .port-sound2 .ensures,
+      at-port-sound3 .port-sound3 .ensures,
+      at-port-sound4 .port-sound4 .ensures,
+      at-port-count .port-count .ensures .0,
+      at-port-count2 .port-count2 .ensures .0,
+      at-port-count3 .port-count3 .ensures .0,
+      c .port-count4 .ensures .0,
     )
     (pending-four (a .visible) (transferAt r 0) (transferAt r 1) (transferAt r 2) (transferAt r 3) (a .limit))
 
@@ -42,10 +34,6 @@ pub pending-sound-spec : {M : Type 1} → statement M
 pending-sound-spec =
     tie.close
     (tie.spec
-    (λ c κs. search needs)
-    (λ c κs. search needs)
-    (λ c κs. search needs)
-    (λ c κs. search needs)
     (λ c κs. search needs)
     (λ c κs. search needs)
     (λ c κs. search needs)

@@ -6,7 +6,17 @@ use Rattle.record_check.proofs.places.slot_named.Tie as tie
 
 returns : tie.Need-returns
 unfolding slotNamed
-returns c = rw (c .before .before .before .u8-at .ensures, c .before .before .u8-at2 .ensures, c .before .u64-at .ensures, c .u64-at2 .ensures)
+returns c =
+    let at-u64-at2 = c .before in
+    let at-u64-at = at-u64-at2 .before in
+    let at-u8-at2 = at-u64-at .before in
+    rw (
+      c .transfer-named .ensures,
+      at-u8-at2 .before .u8-at .ensures,
+      at-u8-at2 .u8-at2 .ensures,
+      at-u64-at .u64-at .ensures,
+      at-u64-at2 .u64-at2 .ensures,
+    )
 
 pub slot-named-spec : {M : Type 1} → statement M
 slot-named-spec =
@@ -20,5 +30,6 @@ slot-named-spec =
     (λ c. search needs)
     (λ c κs. search needs)
     (λ c. search needs)
+    (λ c κs. search needs)
     (λ c κs. search needs)
     returns)

@@ -7,14 +7,14 @@ use Rattle.refusals.proofs.refusal.work_refusal.Statement.{statement}
 use Rattle.refusals.proofs.refusal.work_refusal.Tie as tie
 
 returns : tie.Need-returns
-returns c = λ a disk ea ed. rw (failed (c .before .sound .ensures) (c .if1 .taken))
+returns c = λ a disk ea ed ek. rw (failed (c .before .sound .ensures) (c .if1 .taken))
 
 returns-2 : tie.Need-returns-2
 returns-2 c =
     let at-if1 = c .before in
     let at-sound = at-if1 .before in
     let entry = at-sound .before .before in
-    λ a disk ea ed. rw (passed (at-sound .sound .ensures) (at-if1 .if1 .left), ea, ne-eqb (entry .args .area-len) privateSize (c .if2 .taken))
+    λ a disk ea ed ek. rw (passed (at-sound .sound .ensures) (at-if1 .if1 .left), ea, ne-eqb (entry .args .area-len) privateSize (c .if2 .taken))
 
 is-disk-requires : tie.Need-is-disk-requires
 is-disk-requires c κs = passed (c .before .before .sound .ensures) (c .before .if1 .left)
@@ -26,7 +26,7 @@ returns-3 c =
     let at-if1 = at-if2 .before in
     let at-sound = at-if1 .before in
     let entry = at-sound .before .before in
-    λ a disk ea ed. rw (passed (at-sound .sound .ensures) (at-if1 .if1 .left), ea, ed, eq-eqb (entry .args .area-len) privateSize (at-if2 .if2 .left), failed (at-is-disk .is-disk .ensures) (c .if3 .taken))
+    λ a disk ea ed ek. rw (passed (at-sound .sound .ensures) (at-if1 .if1 .left), ea, ed, ek, eq-eqb (entry .args .area-len) privateSize (at-if2 .if2 .left), failed (at-is-disk .is-disk .ensures) (c .if3 .taken))
 
 returns-4 : tie.Need-returns-4
 returns-4 c =
@@ -35,7 +35,7 @@ returns-4 c =
     let at-if1 = at-if2 .before in
     let at-sound = at-if1 .before in
     let entry = at-sound .before .before in
-    λ a disk ea ed. rw (passed (at-sound .sound .ensures) (at-if1 .if1 .left), ea, ed, eq-eqb (entry .args .area-len) privateSize (at-if2 .if2 .left), passed (at-is-disk .is-disk .ensures) (c .if3 .left))
+    λ a disk ea ed ek. rw (passed (at-sound .sound .ensures) (at-if1 .if1 .left), ea, ed, ek, eq-eqb (entry .args .area-len) privateSize (at-if2 .if2 .left), passed (at-is-disk .is-disk .ensures) (c .if3 .left))
 
 pub work-refusal-spec : {M : Type 1} → statement M
 work-refusal-spec =

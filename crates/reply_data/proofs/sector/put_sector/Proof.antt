@@ -1,10 +1,11 @@
 -- `reply_data::sector::put_sector` meets its contract.
 use Prim.Native.Nat.{_*_}
+use native.Mathlib.Omega.{arith}
 use Rattle.wire.specs.Parts.{part}
 use Rattle.wire.proofs.PartsLaws.{length-part}
 use Rattle.model.specs.Sizes.{sectorSize}
 use Rattle.reply.specs.ReplyMeaning.{asRegisters}
-use Rattle.reply.proofs.ReplyLaws.{reply-stored}
+use Rattle.reply.proofs.ReplyLaws.{reply-data}
 use borrow.Author.Needs.{needs}
 use Rattle.reply_data.proofs.sector.put_sector.Statement.{statement}
 use Rattle.reply_data.proofs.sector.put_sector.Tie as tie
@@ -12,11 +13,11 @@ use Rattle.reply_data.proofs.sector.put_sector.Tie as tie
 returns : tie.Need-returns
 returns c =
     let at-copy-part = c .before .before in
-    let at-put-registers = at-copy-part .before .before .before .before in
-    let entry = at-put-registers .before .before .before .before in
+    let at-put-reply = at-copy-part .before .before .before .before in
+    let entry = at-put-reply .before .before .before .before in
     let a = entry .args in
-    rw (at-copy-part .copy-part .ensures, at-put-registers .put-registers .ensures)
-    (reply-stored (a .area .now) (a .at) (asRegisters (a .reply)) (part (a .disk .now) (sectorSize * a .lba) sectorSize) (length-part (a .disk .now) (sectorSize * a .lba) sectorSize (entry .pre .1)))
+    rw (at-copy-part .copy-part .ensures, at-put-reply .put-reply .ensures)
+    (reply-data (a .area .now) (a .at) (asRegisters (a .reply)) (part (a .disk .now) (sectorSize * a .lba) sectorSize) (omega (arith, length-part (a .disk .now) (sectorSize * a .lba) sectorSize (entry .pre .1))))
 
 pub put-sector-spec : {M : Type 1} → statement M
 put-sector-spec =

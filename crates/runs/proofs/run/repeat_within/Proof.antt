@@ -8,8 +8,8 @@ use lib.Seq.{sets}
 use Rattle.wire.specs.Parts.{part, repeated}
 use Rattle.wire.specs.Bytes.{Bytes}
 use Rattle.wire.proofs.NumbersLaws.{length-put}
-use Rattle.wire.proofs.PartsLaws.{length-part}
-use Rattle.runs.proofs.RunLaws.{put-read, repeat-more}
+use Rattle.wire.proofs.PartsLaws.{length-part, repeat-more}
+use Rattle.runs.proofs.RunLaws.{put-read}
 use Rattle.runs.proofs.run.repeat_within.Statement.{statement}
 use Rattle.runs.proofs.run.repeat_within.Tie as tie
 

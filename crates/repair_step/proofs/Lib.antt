@@ -1,0 +1,2 @@
+-- Laws of the repair step.
+pub mod RepairLaws
