@@ -1,4 +1,10 @@
 -- `reply::registers::put_reply` meets its contract.
+use mathlib.Core.Path.{ap, _∙_}
+use mathlib.Core.List.{List}
+use Prim.Native.Nat.{ℕ, _+_}
+use lib.Seq.{sets}
+use Rattle.wire.specs.Parts.{zeros}
+use Rattle.model.specs.Sizes.{registersSize, dataSize}
 use Rattle.reply.specs.ReplyMeaning.{asRegisters}
 use Rattle.reply.proofs.ReplyLaws.{reply-cleared}
 use borrow.Author.Needs.{needs}
@@ -11,7 +17,9 @@ returns c =
     let at-put-registers = at-zero-part .before .before .before .before in
     let entry = at-put-registers .before .before .before in
     let a = entry .args in
-    rw (at-zero-part .zero-part .ensures, at-put-registers .put-registers .ensures) (reply-cleared (a .area .now) (a .at) (asRegisters (a .r)))
+    at-zero-part .zero-part .ensures
+    ∙ ap (λ (l : List ℕ). sets l (a .at + registersSize) (zeros dataSize)) (at-put-registers .put-registers .ensures)
+    ∙ reply-cleared (a .area .now) (a .at) (asRegisters (a .r))
 
 pub put-reply-spec : {M : Type 1} → statement M
 put-reply-spec =
