@@ -1,12 +1,13 @@
 /*
  * sequence.c - the interface at work, from power-on to power-on.
  *
- * The owner makes the check bytes of a disk, and hides its end. One core starts
- * a fill, the handler advances it in pieces, and another core polls it. The
- * device is saved and started again from what was saved. A bit of a sector
- * flips, and is repaired. A test bench damages a sector by Long Sector Access,
- * and looks at it. Whatever is printed has been compared; the first difference
- * ends the program with 1. docs/interface.md describes the same in words.
+ * The owner makes the check bytes of a disk, and hides its end. A setup tool
+ * switches a recovery timer off. One core starts a fill, the handler advances it
+ * in pieces, and another core polls it. The device is saved and started again
+ * from what was saved. A bit of a sector flips, and is repaired. A test bench
+ * damages a sector by Long Sector Access, and looks at it. Whatever is printed
+ * has been compared; the first difference ends the program with 1.
+ * docs/interface.md describes the same in words.
  */
 #include <stdio.h>
 #include <stdlib.h>
@@ -135,6 +136,18 @@ static void ask_fill(uint32_t port, const char *pattern)
     memcpy(key + 20, pattern, 4);
 }
 
+/* The key of a recovery timer (action 3): function 1 sets it, 2 returns it; timer 1 is for reads, 2 for writes. */
+static void ask_timer(uint32_t port, uint8_t function, uint8_t timer, uint16_t value)
+{
+    uint8_t *key = mailbox[port] + SECTOR;
+
+    ask_log(port, 0xD6);
+    put(key, 2, 3);
+    put(key + 2, 2, function);
+    put(key + 4, 2, timer);
+    put(key + 6, 2, value);
+}
+
 static void ask_sector(uint32_t port, uint8_t lba)
 {
     memset(mailbox[port], 0, sizeof mailbox[port]);
@@ -182,13 +195,15 @@ static int replied(uint32_t port, uint8_t status, uint8_t error, const uint8_t *
     return replied_with(port, status, error, sector, SCT_SECTOR_BYTES);
 }
 
-/* The reply to a key of Long Sector Access: two sectors are to follow. */
-static int replied_long(uint32_t port)
+/* The reply to an accepted key: this value, and so many sectors to follow. */
+static int replied_key(uint32_t port, uint16_t value, uint8_t sectors)
 {
     uint8_t reply[SCT_MAILBOX_BYTES] = { 0 };
 
     reply[STATUS] = 0x50;
-    reply[COUNT] = reply[LBA_MID] = 2;
+    reply[COUNT] = (uint8_t)value;
+    reply[LBA_LOW] = (uint8_t)(value >> 8);
+    reply[LBA_MID] = sectors;
     return memcmp(mailbox[port], reply, sizeof reply) == 0;
 }
 
@@ -246,6 +261,21 @@ static void start(void)
     EXPECT(power_on() == SCT_DONE);
     EXPECT(sct_set_visible(device, sizeof device, VISIBLE) == SCT_DONE);
     printf("power-on of a new disk: %d sectors, %d visible\n", NATIVE, VISIBLE);
+}
+
+/* Both recovery timers are 70, 7 seconds, at power-on. A setup tool that wants no limit sets 0. */
+static void switch_timer_off(void)
+{
+    ask_timer(3, 2, 2, 0);
+    handle(3);
+    EXPECT(replied_key(3, 0x0046, 0));
+    ask_timer(3, 1, 2, 0);
+    handle(3);
+    EXPECT(replied_key(3, 0, 0));
+    ask_timer(3, 2, 2, 0);
+    handle(3);
+    EXPECT(replied_key(3, 0, 0));
+    printf("port 3: write timer 0046h, set to 0\n");
 }
 
 /* Core 0 asks for a fill. What it writes after the take comes too late. */
@@ -369,7 +399,7 @@ static void damage(void)
 
     ask_long(3, 2, 7);
     handle(3);
-    EXPECT(replied_long(3));
+    EXPECT(replied_key(3, 2, 2));
     ask_long_data(3, 0xD6, sector, check);
     handle(3);
     EXPECT(replied(3, 0x50, 0x00, NULL));
@@ -380,7 +410,7 @@ static void damage(void)
     EXPECT(replied(3, 0x51, 0x40, NULL));
     ask_long(3, 1, 7);
     handle(3);
-    EXPECT(replied_long(3));
+    EXPECT(replied_key(3, 2, 2));
     ask_long_data(3, 0xD5, NULL, 0);
     handle(3);
     EXPECT(replied_with(3, 0x50, 0x00, sector, sizeof sector));
@@ -394,6 +424,7 @@ static void damage(void)
 int main(void)
 {
     start();
+    switch_timer_off();
     fill_from_core_0();
     advance_fill();
     sample_and_save();

@@ -976,6 +976,71 @@ static void long_records(void)
     }
 }
 
+/* ---- W-203: recovery timers ------------------------------------------------------- */
+
+enum { FOR_READS = 1, FOR_WRITES = 2 };
+
+static void set_timer(uint16_t timer, uint16_t value)
+{
+    build_key(mail, SMART, 3, 1, timer, value, 0);
+    expect_key("a timer set", 0);
+}
+
+/* Function 2: the value in Sector Count (low) and LBA Low (high), Status 50h, and 0 elsewhere. */
+static void expect_timer(const char *what, uint16_t timer, uint16_t value)
+{
+    uint8_t wanted[SCT_MAILBOX_BYTES] = { 0 };
+
+    wanted[R_STATUS] = 0x50;
+    wanted[R_COUNT] = (uint8_t)value;
+    wanted[R_LOW] = (uint8_t)(value >> 8);
+    build_key(mail, SMART, 3, 2, timer, 0, 0);
+    send(0);
+    expect(what, reply_value(mail), value);
+    expect(what, memcmp(mail, wanted, sizeof mail) != 0, 0);
+}
+
+/* "Both error recovery timers shall be 70 (7 seconds) at power-on": straight after it, with nothing set. */
+static void timers_at_power_on(const char *what, uint64_t used)
+{
+    power_on(used);
+    expect_timer(what, FOR_READS, 0x0046);
+    expect_timer(what, FOR_WRITES, 0x0046);
+}
+
+/* From an empty image and from saved ones, whatever the timers were. */
+static void timers_on(void)
+{
+    static const uint16_t values[] = { 0, 10, 69, 70, 71, 0x4600, 65535 };
+
+    for (size_t i = 0; i < sizeof values / sizeof values[0]; i++) {
+        timers_at_power_on("timer of a new disk", 0);
+        set_timer(FOR_READS, values[i]);
+        expect_timer("read timer as set", FOR_READS, values[i]);
+        expect_timer("write timer as at power-on", FOR_WRITES, 0x0046);
+        set_timer(FOR_WRITES, values[i]);
+        expect_timer("write timer as set", FOR_WRITES, values[i]);
+        expect("save", code->save(device, sizeof device, image, sizeof image, 0), SCT_DONE);
+        expect("second save", code->save(device, sizeof device, image, sizeof image, 560), SCT_DONE);
+        timers_at_power_on("timer after power-on from an entry", 560);
+        timers_at_power_on("timer after power-on from two entries", 1120);
+    }
+}
+
+/* "Setup tools that relied on 0 must set 0 themselves." A record with a timer of 0 is sound. */
+static void timers_off(void)
+{
+    power_on(0);
+    set_timer(FOR_READS, 0);
+    set_timer(FOR_WRITES, 0);
+    sample(20);
+    expect_timer("read timer, off", FOR_READS, 0);
+    expect_timer("write timer, off", FOR_WRITES, 0);
+    set_timer(FOR_READS, 70);
+    expect_timer("read timer, on again", FOR_READS, 70);
+    expect_timer("write timer, still off", FOR_WRITES, 0);
+}
+
 static void run(const struct implementation *implementation)
 {
     code = implementation;
@@ -1010,6 +1075,8 @@ static void run(const struct implementation *implementation)
     long_pending();
     second_sector();
     long_records();
+    timers_on();
+    timers_off();
 }
 
 int main(void)

@@ -74,6 +74,9 @@
  *  46   bytes of the request stay behind the check bytes that Read Long sends
  *  47   Write Long clears bits 13 to 15 of the check that it is sent
  *  48   the second sector of a request stays in a reply of one sector
+ *  49   both timers are 0 at power-on (the rule before W-203)
+ *  50   a power-on from a saved entry leaves the write timer at 0
+ *  51   a timer set to 0 is 70
  */
 #ifdef PLANT
 #define PLANTED(n) (PLANT == (n))
@@ -203,7 +206,7 @@ struct device {
 #define CODE_STOPPED  0x0008u
 #define CODE_RUNNING  0xFFFFu
 
-#define DEFAULT_TIMER 0u        /* "Timers return to 0 at power-on." */
+#define DEFAULT_TIMER 70u       /* W-203: "Both error recovery timers shall be 70 (7 seconds) at power-on." */
 #define DEFAULT_STATE 1u        /* "other states return to 1" */
 
 /* Offsets in the record. */
@@ -990,7 +993,7 @@ static struct reply accept_timer(struct device *d, const uint8_t *key)
 
     if (word(key, 1) == TIMER_RETURN)
         return good(*timer);
-    *timer = word(key, 3);
+    *timer = PLANTED(51) && word(key, 3) == 0 ? DEFAULT_TIMER : word(key, 3);
     return good(0);
 }
 
@@ -1477,7 +1480,7 @@ static void start_afresh(struct device *d, uint8_t *table, uint64_t native)
     d->native = d->visible = native;
     d->now = d->cycle_maximum = d->life_maximum = MISSING;
     for (int t = 0; t < TIMERS; t++)
-        d->timer[t] = DEFAULT_TIMER;
+        d->timer[t] = PLANTED(49) ? 0 : DEFAULT_TIMER;
     for (int f = 0; f < FEATURES; f++)
         d->state[f] = DEFAULT_STATE;
     write_table_constants(table);
@@ -1511,6 +1514,8 @@ static void restore(struct device *d, uint8_t *table, const uint8_t *body)
         if (d->persistent[f])
             d->state[f] = state[f];
     }
+    if (PLANTED(50))
+        d->timer[WRITE_TIMER] = 0;
     restore_history(d, table, body + BODY_TABLE);
 }
 

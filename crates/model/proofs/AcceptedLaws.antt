@@ -1,16 +1,19 @@
 -- What an accepted key asks for, for each action and function, and which bytes hold its numbers.
 use mathlib.Core.Path.{_≡_, refl, _∙_}
 use mathlib.Core.Bool.{Bool, true, false}
-use Prim.Native.Nat.{ℕ, suc, _+_, _*_, _^_}
+use Prim.Native.Nat.{ℕ, suc, _+_, _*_, _^_, _<_}
 use native.Mathlib.Omega.{arith}
 use mathlib.Core.List.{List}
 use lib.ListN.{getD}
 use lib.Dec.{eqb}
 use Rattle.wire.specs.Numbers.{get}
 use Rattle.wire.proofs.NumbersLaws.{get-join}
+use Rattle.wire.proofs.PartsLaws.{get-part}
+use Rattle.model.specs.Sizes.{sectorSize, registersSize}
 use Rattle.model.specs.Device.{Device}
-use Rattle.model.specs.Registers.{Direction, read, write}
+use Rattle.model.specs.Registers.{Direction, read, write, dataOf}
 use Rattle.model.specs.Key.{word, start, count, longLba, FeatureName, writeCache, reordering, logInterval, Action, accessLong, setTimer, returnTimer, setFeature, returnState, returnOption, sendTable, directionOf, featureName, actionOf, accepted, judgeKey}
+use Rattle.model.proofs.KeyTable.{Within}
 use Rattle.model.proofs.KeyLaws.{featureNumber, key-accepted}
 
 -- ---- the bytes of a key's numbers
@@ -19,6 +22,10 @@ use Rattle.model.proofs.KeyLaws.{featureNumber, key-accepted}
 pub word-bytes : (k : List ℕ) (i : ℕ) → word k i ≡ getD k (2 * i) 0 + 256 * getD k (suc (2 * i)) 0
 unfolding get
 word-bytes k i = omega arith
+
+-- .. of the key sector, and from 16 + 2i of the request
+pub word-in-request : (m : List ℕ) (i : ℕ) → i < 256 → word (dataOf m) i ≡ get 2 m (16 + 2 * i)
+word-in-request m i h = get-part 2 m registersSize sectorSize (2 * i) (omega arith)
 
 -- "Start bytes 4-11, Count 12-19"
 pub start-bytes : (k : List ℕ) → start k ≡ get 4 k 4 + 2 ^ 32 * get 4 k 8
@@ -41,6 +48,10 @@ directionNumber write = 2
 pub direction-named : (t : Direction) → directionOf (directionNumber t) ≡ t
 direction-named read = refl
 direction-named write = refl
+
+pub direction-within : (t : Direction) → Within 1 (directionNumber t) 2
+direction-within read = refl
+direction-within write = refl
 
 -- "1 (write cache)", "2 (reordering)", "3 (log interval)"
 pub feature-named : (f : FeatureName) → featureName (featureNumber f) ≡ f

@@ -32,6 +32,7 @@ pub mod DiskSizes
 pub mod SaveLaws
 pub mod PowerOnLaws
 pub mod ImageSteps
+pub mod RecoveryTimers
 pub mod SavedThenOn
 pub mod ValidStep
 pub mod ValidClauses

@@ -28,8 +28,8 @@ use Rattle.model.specs.Machine.{request, reply, Machine, heldBytes}
 use Rattle.model.specs.Valid.{Sized, PortValid, MachineValid}
 use Rattle.model.proofs.RegisterLaws.{ignored}
 use Rattle.model.proofs.FormatLaws.{reply-registers, reply-data, reply-behind, reply-length}
-use Rattle.model.proofs.KeyTable.{Within, accepts-long}
-use Rattle.model.proofs.AcceptedLaws.{directionNumber, accepted-long}
+use Rattle.model.proofs.KeyTable.{accepts-long}
+use Rattle.model.proofs.AcceptedLaws.{word-in-request, directionNumber, direction-within, accepted-long}
 use Rattle.model.proofs.RequestLaws.{serveOn, keyJudged, interrupt-kept, serves-access-long, serves-read-long, serves-write-long}
 use Rattle.model.proofs.ValidRequest.{empty-rest}
 use Rattle.model.proofs.ValidClauses.{valid-clauses}
@@ -50,10 +50,6 @@ pub record LongKeyed (p : ℕ) (dir : Direction) (lba : ℕ) (before after : Mac
   pub code : after .device .command .code ≡ 0x0000
   pub disk : after .disk ≡ before .disk
 
-direction-within : (dir : Direction) → Within 1 (directionNumber dir) 2
-direction-within read = refl
-direction-within write = refl
-
 module _ (s : Serving) (M : Machine) (m : List ℕ) (port : s .port < portCount) (held : M .ports (s .port) ≡ request m) where
   -- "action 0001h, functions 1 (read) and 2 (write), LBA in words 2 to 5": a key with an LBA below V is accepted
   long-judged : (dir : Direction) → M .device .locked ≡ false → get 2 m 16 ≡ 1 → get 2 m 18 ≡ directionNumber dir → get 8 m 20 < M .device .visible
@@ -61,8 +57,8 @@ module _ (s : Serving) (M : Machine) (m : List ℕ) (port : s .port < portCount)
   long-judged dir unlocked action function low =
       let d = interrupt (M .device) in
       let k = dataOf m in
-      let one : word k 0 ≡ 1 = get-part 2 m registersSize sectorSize 0 (omega arith) ∙ action in
-      let number : word k 1 ≡ directionNumber dir = get-part 2 m registersSize sectorSize 2 (omega arith) ∙ function in
+      let one : word k 0 ≡ 1 = word-in-request m 0 (omega arith) ∙ action in
+      let number : word k 1 ≡ directionNumber dir = word-in-request m 1 (omega arith) ∙ function in
       let lba : get 8 k 4 ≡ get 8 m 20 = get-part 8 m registersSize sectorSize 4 (omega arith) in
       let free : d .locked ≡ false = ap (λ (x : Device). x .locked) (interrupt-kept (M .device)) ∙ unlocked in
       let visible : d .visible ≡ M .device .visible = ap (λ (x : Device). x .visible) (interrupt-kept (M .device)) in

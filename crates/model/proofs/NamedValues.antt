@@ -30,8 +30,8 @@ long-sizes = (refl, refl)
 pub entry-sizes : (entrySize ≡ 560) × (bodySize ≡ 544) × (trailerSize ≡ 16)
 entry-sizes = (refl, refl, refl)
 
--- "80h means missing"; "size 478"; "Timers return to 0 at power-on."
-pub values : (missing ≡ 0x80) × (historySize ≡ 478) × (powerOnTimer ≡ 0)
+-- "80h means missing"; "size 478"; W-203: "70 (7 seconds) at power-on"
+pub values : (missing ≡ 0x80) × (historySize ≡ 478) × (powerOnTimer ≡ 70)
 values = (refl, refl, refl)
 
 -- ---- replies

@@ -1,7 +1,7 @@
--- Laws of power-on: the resulting device is valid, and which values are kept over power.
+-- Laws of power-on: which values are kept over power, and that the resulting device is valid.
 use mathlib.Core.Path.{_≡_, refl, ap, _∙_}
 use mathlib.Core.Bool.{Bool, true, false}
-use mathlib.Core.Logic.{inl}
+use mathlib.Core.Logic.{inr}
 use Prim.Native.Nat.{ℕ, _≤_, _<_}
 use native.Mathlib.Omega.{arith}
 use mathlib.Core.List.{List}
@@ -22,6 +22,92 @@ use Rattle.model.specs.ImageForm.{SavedFits}
 use Rattle.model.proofs.EntryLaws.{Ranged, range-parts, parts-range, range-fits}
 use Rattle.model.proofs.ImageLaws.{form-saved, readable-form}
 
+-- ---- what is kept over power
+
+-- "Option 1 keeps a state over power; other states return to 1."
+pub record FeatureKept (before after : Feature) : Type 0 where
+  pub option : after .persistent ≡ before .persistent
+  pub persistentState : before .persistent ≡ true → after .state ≡ before .state
+  pub otherState : before .persistent ≡ false → after .state ≡ 1
+
+-- d is the device at power-on from what was saved.
+pub record KeptRules (s : Saved) (d : Device) : Type 0 where
+  -- W-203: "Both error recovery timers shall be 70 (7 seconds) at power-on."
+  pub timers : (d .settings .readTimer ≡ 70) × (d .settings .writeTimer ≡ 70)
+  pub writeCache : FeatureKept (s .writeCache) (d .settings .writeCache)
+  pub reordering : FeatureKept (s .reordering) (d .settings .reordering)
+  pub logInterval : FeatureKept (s .logInterval) (d .settings .logInterval)
+  -- "The history is kept if the interval after power-on equals the saved one; minutes are 0."
+  pub historyKept : d .settings .logInterval .state ≡ s .logInterval .state → (d .thermal .history ≡ s .history) × (d .thermal .index ≡ s .index)
+  pub historyEmpty : (d .settings .logInterval .state ≡ s .logInterval .state → ⊥) → (d .thermal .history ≡ emptyHistory) × (d .thermal .index ≡ 477)
+  pub minutes : d .thermal .minutes ≡ 0
+  -- ".. with "now" and this cycle's maximum missing."
+  pub temperatures : (d .thermal .current ≡ 0x80) × (d .thermal .cycleMaximum ≡ 0x80)
+  pub asSaved : (d .native ≡ s .native) × (d .visible ≡ s .visible) × (d .initialized ≡ s .initialized) × (d .thermal .lifeMaximum ≡ s .lifeMaximum)
+  -- "Unlocked, no fill, nothing owed, .. code, action and function 0"
+  pub unlocked : d .locked ≡ false
+  pub noFill : d .command .fill ≡ idle
+  pub noTransfer : d .command .pending ≡ nothingPending
+  pub command : (d .command .code ≡ 0) × (d .command .action ≡ 0) × (d .command .function ≡ 0)
+
+feature-kept : (f : Feature) → FeatureKept f (kept f)
+feature-kept f = record { option = refl; persistentState = λ e. rw e; otherState = λ e. rw e }
+
+-- THEOREM: every rule of power-on holds, whatever was saved.
+pub kept-rules : (s : Saved) → KeptRules s (powerOn s)
+unfolding powerOn
+kept-rules s =
+    record {
+      timers = (refl, refl);
+      writeCache = feature-kept (s .writeCache);
+      reordering = feature-kept (s .reordering);
+      logInterval = feature-kept (s .logInterval);
+      historyKept = λ e. chosen true (eq-eqb (kept (s .logInterval) .state) (s .logInterval .state) e);
+      historyEmpty = λ e. chosen false (ne-eqb (kept (s .logInterval) .state) (s .logInterval .state) e);
+      minutes = refl;
+      temperatures = (refl, refl);
+      asSaved = (refl, refl, refl, refl);
+      unlocked = refl;
+      noFill = refl;
+      noTransfer = refl;
+      command = (refl, refl, refl);
+    }
+  where
+    chosen : (b : Bool) → eqb (kept (s .logInterval) .state) (s .logInterval .state) ≡ b
+        → (powerOnThermal s .history ≡ (if b then s .history else emptyHistory)) × (powerOnThermal s .index ≡ (if b then s .index else emptyIndex))
+    chosen b e = (rw e, rw e)
+
+-- ---- "Power-on from length 0 gives V = N, no flag, missing temperatures, defaults, empty history"
+
+-- a default: state 1, not kept over power
+abbrev pub Default : Feature → Type 0
+Default f = (f .state ≡ 1) × (f .persistent ≡ false)
+
+pub record Fresh (native : ℕ) (d : Device) : Type 0 where
+  pub sizes : (d .native ≡ native) × (d .visible ≡ native)
+  pub flag : d .initialized ≡ false
+  pub temperatures : (d .thermal .current ≡ 0x80) × (d .thermal .cycleMaximum ≡ 0x80) × (d .thermal .lifeMaximum ≡ 0x80)
+  pub timers : (d .settings .readTimer ≡ 70) × (d .settings .writeTimer ≡ 70)
+  pub features : Default (d .settings .writeCache) × Default (d .settings .reordering) × Default (d .settings .logInterval)
+  -- "Empty history is all 80h, index 477, minutes 0"
+  pub history : d .thermal .history ≡ replicate 478 0x80
+  pub index : d .thermal .index ≡ 477
+  pub minutes : d .thermal .minutes ≡ 0
+
+pub fresh-on : (native : ℕ) (image : List ℕ) → Fresh native (powerOn (restored native image 0))
+unfolding powerOn restored
+fresh-on native image =
+    record {
+      sizes = (refl, refl);
+      flag = refl;
+      temperatures = (refl, refl, refl);
+      timers = (refl, refl);
+      features = ((refl, refl), (refl, refl), (refl, refl));
+      history = refl;
+      index = refl;
+      minutes = refl;
+    }
+
 -- ---- the device at power-on is valid
 
 kept-valid : (n : ℕ) (f : Feature) → 1 ≤ highestState n → StateValid n f → StateValid n (kept f)
@@ -33,7 +119,7 @@ kept-valid n f top v = go (f .persistent)
 
 -- the timers at power-on are named values
 timer-valid : TimerValid powerOnTimer
-timer-valid = inl refl
+timer-valid = inr (omega arith)
 
 length-empty : length emptyHistory ≡ historySize
 length-empty = length-replicate historySize missing
@@ -122,89 +208,3 @@ newest-fits image used b h n = let f = newest-form image used b h n in rw (f .1)
 
 pub newest-ranged : (image : List ℕ) (used : ℕ) → Bytes image → readable image used ≡ true → (used ≡ 0 → ⊥) → inRange (newestIn image used) ≡ true
 newest-ranged image used b h n = let f = newest-form image used b h n in rw (f .1) (f .3)
-
--- ---- what is kept over power
-
--- "Option 1 keeps a state over power; other states return to 1."
-pub record FeatureKept (before after : Feature) : Type 0 where
-  pub option : after .persistent ≡ before .persistent
-  pub persistentState : before .persistent ≡ true → after .state ≡ before .state
-  pub otherState : before .persistent ≡ false → after .state ≡ 1
-
--- d is the device at power-on from what was saved.
-pub record KeptRules (s : Saved) (d : Device) : Type 0 where
-  -- "Timers return to 0 at power-on."
-  pub timers : (d .settings .readTimer ≡ 0) × (d .settings .writeTimer ≡ 0)
-  pub writeCache : FeatureKept (s .writeCache) (d .settings .writeCache)
-  pub reordering : FeatureKept (s .reordering) (d .settings .reordering)
-  pub logInterval : FeatureKept (s .logInterval) (d .settings .logInterval)
-  -- "The history is kept if the interval after power-on equals the saved one; minutes are 0."
-  pub historyKept : d .settings .logInterval .state ≡ s .logInterval .state → (d .thermal .history ≡ s .history) × (d .thermal .index ≡ s .index)
-  pub historyEmpty : (d .settings .logInterval .state ≡ s .logInterval .state → ⊥) → (d .thermal .history ≡ emptyHistory) × (d .thermal .index ≡ 477)
-  pub minutes : d .thermal .minutes ≡ 0
-  -- ".. with "now" and this cycle's maximum missing."
-  pub temperatures : (d .thermal .current ≡ 0x80) × (d .thermal .cycleMaximum ≡ 0x80)
-  pub asSaved : (d .native ≡ s .native) × (d .visible ≡ s .visible) × (d .initialized ≡ s .initialized) × (d .thermal .lifeMaximum ≡ s .lifeMaximum)
-  -- "Unlocked, no fill, nothing owed, .. code, action and function 0"
-  pub unlocked : d .locked ≡ false
-  pub noFill : d .command .fill ≡ idle
-  pub noTransfer : d .command .pending ≡ nothingPending
-  pub command : (d .command .code ≡ 0) × (d .command .action ≡ 0) × (d .command .function ≡ 0)
-
-feature-kept : (f : Feature) → FeatureKept f (kept f)
-feature-kept f = record { option = refl; persistentState = λ e. rw e; otherState = λ e. rw e }
-
--- THEOREM: every rule of power-on holds, whatever was saved.
-pub kept-rules : (s : Saved) → KeptRules s (powerOn s)
-unfolding powerOn
-kept-rules s =
-    record {
-      timers = (refl, refl);
-      writeCache = feature-kept (s .writeCache);
-      reordering = feature-kept (s .reordering);
-      logInterval = feature-kept (s .logInterval);
-      historyKept = λ e. chosen true (eq-eqb (kept (s .logInterval) .state) (s .logInterval .state) e);
-      historyEmpty = λ e. chosen false (ne-eqb (kept (s .logInterval) .state) (s .logInterval .state) e);
-      minutes = refl;
-      temperatures = (refl, refl);
-      asSaved = (refl, refl, refl, refl);
-      unlocked = refl;
-      noFill = refl;
-      noTransfer = refl;
-      command = (refl, refl, refl);
-    }
-  where
-    chosen : (b : Bool) → eqb (kept (s .logInterval) .state) (s .logInterval .state) ≡ b
-        → (powerOnThermal s .history ≡ (if b then s .history else emptyHistory)) × (powerOnThermal s .index ≡ (if b then s .index else emptyIndex))
-    chosen b e = (rw e, rw e)
-
--- ---- "Power-on from length 0 gives V = N, no flag, missing temperatures, defaults, empty history"
-
--- a default: state 1, not kept over power
-abbrev pub Default : Feature → Type 0
-Default f = (f .state ≡ 1) × (f .persistent ≡ false)
-
-pub record Fresh (native : ℕ) (d : Device) : Type 0 where
-  pub sizes : (d .native ≡ native) × (d .visible ≡ native)
-  pub flag : d .initialized ≡ false
-  pub temperatures : (d .thermal .current ≡ 0x80) × (d .thermal .cycleMaximum ≡ 0x80) × (d .thermal .lifeMaximum ≡ 0x80)
-  pub timers : (d .settings .readTimer ≡ 0) × (d .settings .writeTimer ≡ 0)
-  pub features : Default (d .settings .writeCache) × Default (d .settings .reordering) × Default (d .settings .logInterval)
-  -- "Empty history is all 80h, index 477, minutes 0"
-  pub history : d .thermal .history ≡ replicate 478 0x80
-  pub index : d .thermal .index ≡ 477
-  pub minutes : d .thermal .minutes ≡ 0
-
-pub fresh-on : (native : ℕ) (image : List ℕ) → Fresh native (powerOn (restored native image 0))
-unfolding powerOn restored
-fresh-on native image =
-    record {
-      sizes = (refl, refl);
-      flag = refl;
-      temperatures = (refl, refl, refl);
-      timers = (refl, refl);
-      features = ((refl, refl), (refl, refl), (refl, refl));
-      history = refl;
-      index = refl;
-      minutes = refl;
-    }

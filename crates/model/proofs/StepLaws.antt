@@ -106,10 +106,10 @@ port-other p q x ports ne = rw (ne-eqb q p ne)
 
 -- Take "copies the mailbox into the port's slot": the port holds the mailbox's bytes, whatever they are
 pub take-keeps : (p : ℕ) (m : List ℕ) (M : Machine) → p < portCount → length m ≡ mailboxSize → M .ports p ≡ empty
-    → step (take p m) M .state .ports p ≡ request m
+    → (step (take p m) M .seen ≡ answeredMailbox done m) × (step (take p m) M .state .ports p ≡ request m)
 take-keeps p m M h size e =
     rw (step-done (take p m) M (pass-all (checks (take p m) M) (eq-eqb (length m) mailboxSize size, (lt-ltb p portCount h, (rw e, tt)))))
-    (port-same p (request m) (M .ports))
+    (refl, port-same p (request m) (M .ports))
 
 -- "Give .. writes all 528 reply bytes to the mailbox. Answered to empty": 1,040 since W-202
 pub give-delivers : (p : ℕ) (m r : List ℕ) (M : Machine) → p < portCount → length m ≡ mailboxSize → M .ports p ≡ reply r

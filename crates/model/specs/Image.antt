@@ -273,7 +273,7 @@ settingsOf forRead forWrite cache reordering interval =
       logInterval = kept interval;
     }
 
--- "Timers return to 0 at power-on."
+-- W-203: "Both error recovery timers shall be 70 (7 seconds) at power-on."
 abbrev pub powerOnSettings : Saved → Settings
 powerOnSettings s = settingsOf powerOnTimer powerOnTimer (s .writeCache) (s .reordering) (s .logInterval)
 

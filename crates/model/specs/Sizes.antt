@@ -39,9 +39,9 @@ historySize = 478
 abbrev pub missing : ℕ
 missing = 0x80
 
--- "Timers return to 0 at power-on."
+-- "Timers return to 0 at power-on."; W-203: "Both error recovery timers shall be 70 (7 seconds) at power-on."
 abbrev pub powerOnTimer : ℕ
-powerOnTimer = 0
+powerOnTimer = 70
 
 -- "Entries of 560 bytes: 544 of body, a 16-byte trailer at the end."
 abbrev pub bodySize : ℕ

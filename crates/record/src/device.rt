@@ -89,8 +89,8 @@ pub struct Device {
 }
 
 impl Settings {
-    // "Timers return to 0 at power-on."
-    pub const POWER_ON_TIMER: u16 = 0;
+    // W-203: "Both error recovery timers shall be 70 (7 seconds) at power-on."
+    pub const POWER_ON_TIMER: u16 = 70;
     // ".. other states return to 1."
     const STATE_NOT_KEPT: u16 = 1;
 

@@ -55,13 +55,8 @@ fn saved_settings(image: &[u8], at: usize) -> Settings
         state: wire::u16_at(image, at + entry::INTERVAL_AT),
         persistent: has_bit(entry::LOG_INTERVAL_OPTION, options),
     };
-    Settings::power_on(
-        Settings::POWER_ON_TIMER,
-        Settings::POWER_ON_TIMER,
-        write_cache,
-        reordering,
-        log_interval,
-    )
+    let timer = Settings::POWER_ON_TIMER;
+    Settings::power_on(timer, timer, write_cache, reordering, log_interval)
 }
 
 // A device at power-on: "Unlocked, no fill, nothing owed, .. code, action and function 0".

@@ -3,17 +3,18 @@ use mathlib.Core.Path.{_≡_, sym, ap, _∙_}
 use Prim.Native.Nat.{ℕ, _*_, _≤_}
 use mathlib.Core.List.{List, [], _∷_, _++_}
 use lib.ListN.{length}
+use Rattle.wire.specs.Numbers.{get}
 use Rattle.wire.specs.Bytes.{Bytes}
 use Rattle.model.specs.Device.{Device}
-use Rattle.model.specs.Disk.{Disk}
+use Rattle.model.specs.Disk.{Disk, nativeSize}
 use Rattle.model.specs.Machine.{Machine, request}
-use Rattle.model.specs.Image.{savedFrom}
-use Rattle.model.specs.Step.{Step, take, save}
+use Rattle.model.specs.Image.{savedFrom, restored}
+use Rattle.model.specs.Step.{Step, take, save, poweredOn}
 use Rattle.model.specs.Valid.{Fed, Each}
 use Rattle.model.proofs.DiskSizes.{SameSize}
 use Rattle.model.proofs.StepLaws.{step-done, port-same}
 use Rattle.model.proofs.TakenLaws.{AllLeave}
-use Rattle.model.proofs.PowerOnLaws.{KeptRules}
+use Rattle.model.proofs.PowerOnLaws.{KeptRules, kept-rules}
 use Rattle.store.specs.Areas.{recordSize, privateSize}
 use Rattle.store.specs.Record.{decode}
 use Rattle.store.specs.Store.{Store, machineOf}
@@ -22,7 +23,7 @@ use Rattle.store.specs.OnStore.{onStore}
 use Rattle.store.specs.Condition3.{HiddenKept, started}
 use Rattle.store.proofs.FollowLaws.{BytesKept, hidden-bytes, StoreValid}
 use Rattle.store.proofs.StepFollows.{follows}
-use Rattle.store.proofs.Condition3Holds.{started-valid}
+use Rattle.store.proofs.Condition3Holds.{started-valid, condition-3}
 use Rattle.store.proofs.AnswerLaws.{ListAnswersRight, list-answers, storeAfter, request-kept, step-answer}
 use Rattle.store.proofs.SavedBack.{power-on-saved, saved-read-back}
 
@@ -62,6 +63,14 @@ module _ (r a : List ℕ) (disk : Disk) (image : List ℕ) (used : ℕ) (answers
   -- THEOREM: after a power-on that answers 0, the bytes are valid after every list of steps: the record is sound, and the rest of `StoreValid`.
   pub valid-after : (xs : List Step) → Each Fed xs → StoreValid (storeAfter xs start)
   valid-after xs fed = list-valid xs start fed start-valid
+
+  -- THEOREM: after a power-on that answers 0, from an empty image or a saved one, both recovery timers of the record are 70 (W-203).
+  pub timers-after : (get 2 (start .recordArea) 26 ≡ 70) × (get 2 (start .recordArea) 28 ≡ 70)
+  unfolding machineOf decode poweredOn
+  timers-after =
+      let same = condition-3 r a disk image used diskBytes checkBytes imageBytes .followed answers [] tt .afterPowerOn in
+      let kept = kept-rules (restored (nativeSize disk) image used) .timers in
+      (ap (λ (M : Machine). M .device .settings .readTimer) same ∙ kept .0, ap (λ (M : Machine). M .device .settings .writeTimer) same ∙ kept .1)
 
   -- THEOREM: no step of a list after it answers 4, and a step answers 2 only for a mailbox's length or a used length.
   pub answers-after : (xs : List Step) → Each Fed xs → ListAnswersRight xs start
