@@ -8,7 +8,10 @@ use layout::SECTOR;
 use libc::STDIN_FILENO;
 use libc::STDOUT_FILENO;
 ghost use mathlib.Core.Path.{_≡_};
+ghost use Prim.Native.Nat.{suc};
 ghost use lib.ListN.{length};
+ghost use Rattle.model.specs.Sizes.{mailboxSize};
+ghost use Rattle.store.specs.Areas.{recordSize};
 
 // "records of one byte (work count) and a 528-byte mailbox": W-202 makes them 1,041 bytes; "a fresh 64-sector disk"; a line has at most 64 bytes.
 const INPUT: usize = 1 + MAILBOX;
@@ -30,8 +33,8 @@ fn answer(
     number: u64,
     input: &mut [u8],
 ) -> bool
-    requires { ⌜ length (now device) ≡ 1024 ⌝ }
-    requires { ⌜ length (now input) ≡ 1041 ⌝ }
+    requires { ⌜ length (now device) ≡ recordSize ⌝ }
+    requires { ⌜ length (now input) ≡ suc mailboxSize ⌝ }
 {
     let n = input[0];
     let mut line = [0u8; LINE];
@@ -56,7 +59,7 @@ fn next(
     check_area: &mut [u8],
     number: u64,
 ) -> bool
-    requires { ⌜ length (now device) ≡ 1024 ⌝ }
+    requires { ⌜ length (now device) ≡ recordSize ⌝ }
 {
     let mut input = [0u8; INPUT];
     let count = io::read_full(STDIN_FILENO, &mut input);
@@ -72,7 +75,7 @@ fn next(
 }
 
 fn all(device: &mut [u8], area: &mut [u8], disk: &mut [u8], check_area: &mut [u8])
-    requires { ⌜ length (now device) ≡ 1024 ⌝ }
+    requires { ⌜ length (now device) ≡ recordSize ⌝ }
 {
     let mut done: u64 = 0;
     while done < u64::MAX && next(device, area, disk, check_area, done + 1) {

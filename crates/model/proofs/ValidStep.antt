@@ -41,6 +41,7 @@ use Rattle.model.proofs.StepLaws.{step-done, step-refused, answers-numb
 use Rattle.model.proofs.FormatLaws.{status-at, table-at, table-bytes, reply-sized}
 use Rattle.model.proofs.PowerOnLaws.{power-on-valid, blank-fits, blank-ranged, newest-fits, newest-ranged}
 use Rattle.model.proofs.OwnerLaws.{interrupt-quiet}
+use Rattle.model.proofs.DiskRepair.{repair-idle}
 use Rattle.model.proofs.RequestLaws.{interrupt-kept}
 use Rattle.model.proofs.ValidDevice.{initialized-valid, locked-valid, interrupt-command, interrupt-valid, start-valid, advanced-valid, sampled-valid}
 use Rattle.model.proofs.ValidRequest.{WritingValid, SendingValid, DecisionValid, decide-valid, request-held}
@@ -308,14 +309,9 @@ sample-valid reading M ok h =
 
 -- ---- repair
 
--- a device with no fill, and a disk of its size
-quiet-volume : (v : Volume) (M : Machine) → MachineValid M → VolumeValid v → v .device .command .fill ≡ idle
-    → MachineValid (machine (v .device) (M .sector) (M .ports) (v .disk))
-quiet-volume v M ok w none = record { deviceValid = w .deviceValid; sectorValid = rw none; portsValid = ok .portsValid; diskValid = w .diskValid }
-
-repair-valid : (lba : ℕ) (M : Machine) → MachineValid M → lba < M .device .visible → MachineValid (repaired lba M)
-unfolding repaired repairVolume
-repair-valid lba M ok low = go (eqb (repairReport lba (M .disk)) 1)
+repair-volume : (lba : ℕ) (M : Machine) → MachineValid M → lba < M .device .visible → VolumeValid (repairVolume lba (volume M))
+unfolding repairVolume
+repair-volume lba M ok low = go (eqb (repairReport lba (M .disk)) 1)
   where
     d : Device
     d = interrupt (M .device)
@@ -329,11 +325,9 @@ repair-valid lba M ok low = go (eqb (repairReport lba (M .disk)) 1)
     stopped : VolumeValid (record { device = d; disk = M .disk })
     stopped = record { deviceValid = interrupt-valid (M .device) (ok .deviceValid); diskValid = rw (interrupt-native (M .device)) (ok .diskValid) }
 
-    go : (b : Bool) → let v : Volume = record { device = repairedDevice b (M .device); disk = repairedDisk b lba (M .disk) } in
-        MachineValid (machine (v .device) (M .sector) (M .ports) (v .disk))
+    go : (b : Bool) → VolumeValid (record { device = repairedDevice b (M .device); disk = repairedDisk b lba (M .disk) })
     go true =
-        quiet-volume (record { device = withInitialized false d; disk = repairedDisk true lba (M .disk) }) M ok
-        (record {
+        record {
           deviceValid = initialized-valid false d (stopped .deviceValid);
           diskValid =
               record {
@@ -342,9 +336,14 @@ repair-valid lba M ok low = go (eqb (repairReport lba (M .disk)) 1)
                     (bytes-repaired (x .check) (x .content) (content .bytes));
                 checkAreaValid = stopped .diskValid .checkAreaValid;
               };
-        })
-        (interrupt-quiet (M .device) .noFill)
-    go false = quiet-volume (record { device = d; disk = M .disk }) M ok stopped (interrupt-quiet (M .device) .noFill)
+        }
+    go false = stopped
+
+repair-valid : (lba : ℕ) (M : Machine) → MachineValid M → lba < M .device .visible → MachineValid (repaired lba M)
+unfolding repaired
+repair-valid lba M ok low =
+    let v = repair-volume lba M ok low in
+    record { deviceValid = v .deviceValid; sectorValid = rw (repair-idle lba (volume M)); portsValid = ok .portsValid; diskValid = v .diskValid }
 
 -- ---- power-on
 

@@ -1,12 +1,11 @@
 -- The answer table at the entries: an entry that passes the checks above and fails this one has this answer.
 use mathlib.Core.Path.{_≡_, refl, _∙_}
-use mathlib.Core.Bool.{Bool, true, false, _&&_}
+use mathlib.Core.Bool.{Bool, true, false}
 use Prim.Native.Nat.{ℕ, _*_, _/_, _≤_, _<_}
 use native.Mathlib.Omega.{arith}
 use mathlib.Core.List.{List}
 use lib.ListN.{length}
-use lib.Dec.{eqb}
-use borrow.Author.Tests.{eqb-true, eq-eqb, ne-eqb, lt-ltb, le-ltb, lt-leb, le-leb}
+use borrow.Author.Tests.{eq-eqb, ne-eqb, lt-ltb, le-ltb, lt-leb, le-leb}
 use Rattle.wire.specs.Choice.{firstFailed}
 use Rattle.model.specs.Image.{readable, sameDisk, hasRoom, wholeSectors, wellSized}
 use Rattle.model.specs.Image.{powerOnChecks as diskChecks}
@@ -18,10 +17,9 @@ use Rattle.model.specs.Sizes.{mailboxSize}
 use Rattle.store.specs.Record.{empty, held, answered, isStage, decode}
 use Rattle.store.specs.Sound.{sound}
 use Rattle.store.specs.Store.{Store, stageFor}
-use Rattle.store.specs.Entries.{hasSectors}
 use Rattle.store.specs.OnStore.{onStore}
 use Rattle.store.proofs.SoundLaws.{sound-parts}
-use Rattle.store.proofs.ExitLaws.{sized-passes}
+use Rattle.store.proofs.ExitLaws.{sectors-other, sized-passes}
 use Rattle.store.proofs.AnswerLaws.{entry-answer}
 use Rattle.store.specs.Areas.{privateSize, recordSize}
 
@@ -60,15 +58,6 @@ unsound-record (save image used) s j e = entry-answer (save image used) s ∙ rw
 unsound-record (powerOn image used) s j e = absurd j
 
 -- ---- with a sound record
-
--- a disk or a check area of another size
-sectors-other : (n : ℕ) (disk : Disk) → (HasSize n disk → ⊥) → hasSectors n disk ≡ false
-sectors-other n disk other = go (eqb (length (disk .sectors)) (512 * n)) (eqb (length (disk .checkArea)) (2 * n)) refl refl
-  where
-    go : (a b : Bool) → eqb (length (disk .sectors)) (512 * n) ≡ a → eqb (length (disk .checkArea)) (2 * n) ≡ b → (a && b) ≡ false
-    go true true e f = absurd (other (eqb-true (length (disk .sectors)) (512 * n) e, eqb-true (length (disk .checkArea)) (2 * n) f))
-    go true false e f = refl
-    go false b e f = refl
 
 module _ (s : Store) (isSound : sound (s .recordArea) ≡ true) where
   -- 2: a mailbox whose length is not mailboxSize

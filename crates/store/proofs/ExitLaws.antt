@@ -1,10 +1,11 @@
 -- An entry is done or refused: which checks it has, and that a refusal changes nothing.
 use mathlib.Core.Path.{_≡_, refl}
-use mathlib.Core.Bool.{true}
+use mathlib.Core.Bool.{Bool, true, false, _&&_}
 use Prim.Native.Nat.{ℕ, suc, _*_}
 use mathlib.Core.List.{List, []}
 use lib.ListN.{length}
-use borrow.Author.Tests.{eq-eqb}
+use lib.Dec.{eqb}
+use borrow.Author.Tests.{eqb-true, eq-eqb}
 use Rattle.wire.specs.Choice.{Check, firstFailed, attempt}
 use Rattle.model.specs.Sizes.{sectorSize, checkSize, done}
 use Rattle.model.specs.Step.{OwnerStep, lock, unlock, setVisible, sample, Step, take, serve, give, work, owner, repair, save, powerOn, Seen, answerOnly, counted, reported, answeredMailbox, answeredImage, unchanged, ownerRule}
@@ -51,7 +52,16 @@ doneSeen (repair lba) s = reported (repairDone (s .recordArea) (s .disk) lba .re
 doneSeen (save image used) s = let o = saveDone (s .recordArea) image used in answeredImage done (o .image) (o .used)
 doneSeen (powerOn image used) s = answeredImage done image used
 
--- a disk of n sectors, with their check bytes, passes its test
+-- a disk or a check area of another size fails the test of both ..
+pub sectors-other : (n : ℕ) (disk : Disk) → (HasSize n disk → ⊥) → hasSectors n disk ≡ false
+sectors-other n disk other = go (eqb (length (disk .sectors)) (512 * n)) (eqb (length (disk .checkArea)) (2 * n)) refl refl
+  where
+    go : (a b : Bool) → eqb (length (disk .sectors)) (512 * n) ≡ a → eqb (length (disk .checkArea)) (2 * n) ≡ b → (a && b) ≡ false
+    go true true e f = absurd (other (eqb-true (length (disk .sectors)) (512 * n) e, eqb-true (length (disk .checkArea)) (2 * n) f))
+    go true false e f = refl
+    go false b e f = refl
+
+-- .. and a disk of n sectors, with their check bytes, passes it
 pub sized-passes : (n : ℕ) (disk : Disk) → HasSize n disk → hasSectors n disk ≡ true
 sized-passes n disk e =
     rw (eq-eqb (length (disk .sectors)) (sectorSize * n) (e .0), eq-eqb (length (disk .checkArea)) (checkSize * n) (e .1))

@@ -2,6 +2,7 @@
 use mathlib.Core.Path.{_≡_}
 use Prim.Native.Nat.{_-_}
 use lib.ListN.{length}
+use Rattle.store.specs.Areas.{recordSize}
 use native.Mathlib.Omega.{arith}
 use borrow.Author.Needs.{needs}
 use Rattle.desk.proofs.all.Statement.{statement}
@@ -10,7 +11,7 @@ use Rattle.desk.proofs.all.Tie as tie
 -- the buffers keep their lengths
 abbrev Inv-loop : tie.InvT-loop
 Inv-loop device₀ area₀ disk₀ checks₀ done₀ device area disk checks done =
-    (length device ≡ 1024) × (length device ≡ length device₀) × (length area ≡ length area₀) × (length disk ≡ length disk₀) × (length checks ≡ length checks₀)
+    (length device ≡ recordSize) × (length device ≡ length device₀) × (length area ≡ length area₀) × (length disk ≡ length disk₀) × (length checks ≡ length checks₀)
 
 abbrev μ-loop : tie.MeasureT-loop
 μ-loop device₀ area₀ disk₀ checks₀ done₀ device area disk checks done = 18446744073709551615 - done
