@@ -231,9 +231,9 @@ uint32_t SCT_CALL sct_save(const uint8_t *device, size_t device_length,
 /*
  * Starts the device from the newest entry of the image; with used 0 as a new
  * disk, with V = N. Either way both error recovery timers are 70, 7 seconds: a
- * setup tool that relied on 0, no limit, must set 0 itself. What the record held
- * is not judged. Of disk and check area only the lengths are used: check bytes
- * are neither judged nor computed.
+ * setup tool that relied on 0, no limit, must set 0 itself after each power-on.
+ * What the record held is not judged. Of disk and check area only the lengths
+ * are used: check bytes are neither judged nor computed.
  * Refusals: 2 record, private area, disk not 1 to 65,536 whole sectors, check
  * area not two bytes for each, used exceeds the image; 6; 7.
  * Changes: the record, and the private area, which becomes zeros.

@@ -327,6 +327,10 @@ static void start_again(void)
     EXPECT(power_on() == SCT_DONE);
     printf("power-on from the image\n");
     poll(1, (struct status){ 1, 0, 0x0000, 0, 0, 0, 0x80, 0x80, 0x23 });
+    ask_timer(3, 2, 2, 0);
+    handle(3);
+    EXPECT(replied_key(3, 0x0046, 0));
+    printf("port 3: write timer 0046h again\n");
 }
 
 /* A refused request has Status 51h. A refused step has a nonzero answer, and changes nothing. */
@@ -378,7 +382,7 @@ static void flip(void)
     EXPECT(replied(2, 0x50, 0x00, disk + 5 * SCT_SECTOR_BYTES));
     printf("repair of sector 5, twice: 1, 0\n");
     printf("port 2: sector 5 read\n");
-    poll(1, (struct status){ 0, 0, 0x0000, 0, 0, 0, 0x80, 0x80, 0x23 });
+    poll(1, (struct status){ 0, 0, 0x0000, 3, 2, 0, 0x80, 0x80, 0x23 });
 
     *byte ^= 0x18;
     EXPECT(repair(5) == 2);

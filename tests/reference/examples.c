@@ -1000,11 +1000,12 @@ static void expect_timer(const char *what, uint16_t timer, uint16_t value)
     expect(what, memcmp(mail, wanted, sizeof mail) != 0, 0);
 }
 
-/* "Both error recovery timers shall be 70 (7 seconds) at power-on": straight after it, with nothing set. */
+/* "Both error recovery timers shall be 70 (7 seconds) at power-on": each is asked for straight after one. */
 static void timers_at_power_on(const char *what, uint64_t used)
 {
     power_on(used);
     expect_timer(what, FOR_READS, 0x0046);
+    power_on(used);
     expect_timer(what, FOR_WRITES, 0x0046);
 }
 
@@ -1027,18 +1028,33 @@ static void timers_on(void)
     }
 }
 
-/* "Setup tools that relied on 0 must set 0 themselves." A record with a timer of 0 is sound. */
+/* "Setup tools that relied on 0 must set 0 themselves." */
 static void timers_off(void)
 {
     power_on(0);
     set_timer(FOR_READS, 0);
     set_timer(FOR_WRITES, 0);
-    sample(20);
     expect_timer("read timer, off", FOR_READS, 0);
     expect_timer("write timer, off", FOR_WRITES, 0);
     set_timer(FOR_READS, 70);
     expect_timer("read timer, on again", FOR_READS, 70);
     expect_timer("write timer, still off", FOR_WRITES, 0);
+}
+
+/* "each timer is 0 or at least 10", as before. The read timer is at 26, the write timer at 28. */
+static void timer_records(void)
+{
+    static const struct { uint16_t timer; uint32_t answer; } records[] = {
+        { 0, SCT_DONE }, { 1, SCT_BAD_RECORD }, { 9, SCT_BAD_RECORD }, { 10, SCT_DONE }, { 70, SCT_DONE },
+        { 65535, SCT_DONE }
+    };
+
+    for (size_t i = 0; i < sizeof records / sizeof records[0]; i++)
+        for (unsigned at = 26; at <= 28; at += 2) {
+            power_on(0);
+            put16(device + at, records[i].timer);
+            expect("record with a timer", code->sample(device, sizeof device, 20), records[i].answer);
+        }
 }
 
 static void run(const struct implementation *implementation)
@@ -1077,6 +1093,7 @@ static void run(const struct implementation *implementation)
     long_records();
     timers_on();
     timers_off();
+    timer_records();
 }
 
 int main(void)

@@ -993,7 +993,9 @@ static struct reply accept_timer(struct device *d, const uint8_t *key)
 
     if (word(key, 1) == TIMER_RETURN)
         return good(*timer);
-    *timer = PLANTED(51) && word(key, 3) == 0 ? DEFAULT_TIMER : word(key, 3);
+    *timer = word(key, 3);
+    if (PLANTED(51) && *timer == 0)
+        *timer = DEFAULT_TIMER;
     return good(0);
 }
 

@@ -1,4 +1,4 @@
--- The recovery timers (W-203): both are 70 after every power-on, which function 2 then returns; a timer set to 0 is off.
+-- The recovery timers (W-203): both are 70 after every power-on that answers 0, which function 2 then returns; a timer set to 0 is off.
 use mathlib.Core.Path.{_≡_, refl, ap, _∙_}
 use mathlib.Core.Bool.{false}
 use Prim.Native.Nat.{ℕ, _<_, _/_}
@@ -16,8 +16,8 @@ use Rattle.model.specs.Fill.{interrupt}
 use Rattle.model.specs.Decide.{Serving, timer, withTimer}
 use Rattle.model.specs.Image.{restored}
 use Rattle.model.specs.Machine.{request, reply, Machine}
-use Rattle.model.specs.Step.{take, powerOn, Seen, step}
-use Rattle.model.proofs.StepLaws.{take-keeps, take-alone}
+use Rattle.model.specs.Step.{take, give, powerOn, Seen, answeredMailbox, step}
+use Rattle.model.proofs.StepLaws.{take-keeps, take-alone, give-delivers}
 use Rattle.model.proofs.KeyTable.{accepts-timer, accepts-timer-return}
 use Rattle.model.proofs.AcceptedLaws.{word-in-request, directionNumber, direction-within, accepted-set-timer, accepted-return-timer}
 use Rattle.model.proofs.RequestLaws.{serveOn, interrupt-kept, serves-set-timer, serves-return-timer}
@@ -40,9 +40,9 @@ abbrev pub otherTimer : Direction → Direction
 otherTimer read = write
 otherTimer write = read
 
-timer-set : (t : Direction) (n : ℕ) (s : Settings) → (timer t (withTimer t n s) ≡ n) × (timer (otherTimer t) (withTimer t n s) ≡ timer (otherTimer t) s)
-timer-set read n s = (refl, refl)
-timer-set write n s = (refl, refl)
+one-timer-set : (t : Direction) (n : ℕ) (s : Settings) → (timer t (withTimer t n s) ≡ n) × (timer (otherTimer t) (withTimer t n s) ≡ timer (otherTimer t) s)
+one-timer-set read n s = (refl, refl)
+one-timer-set write n s = (refl, refl)
 
 module _ (s : Serving) (M : Machine) (m : List ℕ) (port : s .port < portCount) (held : M .ports (s .port) ≡ request m) (isKey : requestOf m ≡ keySector) (unlocked : M .device .locked ≡ false) (t : Direction) (action : get 2 m 16 ≡ 3) (named : get 2 m 20 ≡ directionNumber t) where
   abbrev after : Machine
@@ -74,7 +74,7 @@ module _ (s : Serving) (M : Machine) (m : List ℕ) (port : s .port < portCount)
       let judged = accepts ∙ ap accepted (accepted-return-timer stopped k (actionOf (stopped .visible) k) accepts t three returns two) in
       serves-return-timer s M m port held t isKey judged .replied ∙ ap (λ (c : Settings). reply (replyBytes (good (timer t c) 0) [])) same-settings
 
-  -- "Setup tools that relied on 0 must set 0 themselves": a set of 0 is accepted, the timer is off, and the other timer keeps its value.
+  -- "Setup tools that relied on 0 must set 0 themselves": unlocked, a set of 0 is accepted, the timer is off, and the other timer keeps its value.
   pub switches-off : get 2 m 18 ≡ 1 → get 2 m 22 ≡ 0
       → (after .ports (s .port) ≡ reply (form 1040 ((12, 1, 0x50) ∷ []))) × (timer t (after .device .settings) ≡ 0)
       × (timer (otherTimer t) (after .device .settings) ≡ timer (otherTimer t) (M .device .settings))
@@ -86,7 +86,7 @@ module _ (s : Serving) (M : Machine) (m : List ℕ) (port : s .port < portCount)
       accepts
       ∙ ap accepted (accepted-set-timer stopped k (actionOf (stopped .visible) k) accepts t three sets two ∙ ap (setTimer t) zero) in
       let w = serves-set-timer s M m port held t 0 isKey judged in
-      let changed = timer-set t 0 (stopped .settings) in
+      let changed = one-timer-set t 0 (stopped .settings) in
       (w .replied ∙ ap reply plain-reply, rw (w .deviceAfter) (changed .0), rw (w .deviceAfter) (changed .1) ∙ ap (timer (otherTimer t)) same-settings)
 
 -- ---- "Both error recovery timers shall be 70 (7 seconds) at power-on."
@@ -99,20 +99,26 @@ module _ (image : List ℕ) (used : ℕ) (M : Machine) (answers : step (powerOn 
   pub timers-on : (on .device .settings .readTimer ≡ 70) × (on .device .settings .writeTimer ≡ 70)
   timers-on = rw (power-on-leaves image used M answers .device) (kept-rules (restored (length (M .disk .sectors) / 512) image used) .timers)
 
-  -- THEOREM: function 2 in the first request, on any port, returns 0046h for either timer: 46h in Sector Count, and 0 in LBA Low.
-  pub returns-seventy : (s : Serving) (m : List ℕ) → s .port < portCount → length m ≡ mailboxSize → requestOf m ≡ keySector → (t : Direction)
-      → get 2 m 16 ≡ 3 → get 2 m 18 ≡ 2 → get 2 m 20 ≡ directionNumber t
-      → serveOn s (step (take (s .port) m) on .state) .state .ports (s .port) ≡ reply (form 1040 ((2, 1, 0x46) ∷ (12, 1, 0x50) ∷ []))
-  returns-seventy s m port size isKey t action function named =
-      let is = power-on-leaves image used M answers in
-      let taken = take-keeps (s .port) m on port size (is .ports (s .port)) in
-      let same = take-alone (s .port) m on (ap (λ (o : Seen). o .answer) (taken .0)) .device in
-      let unlocked = ap (λ (d : Device). d .locked) (same ∙ is .device) ∙ kept-rules (restored (length (M .disk .sectors) / 512) image used) .unlocked in
-      returns-timer s (step (take (s .port) m) on .state) m port (taken .1) isKey unlocked t action named function
-      ∙ ap (λ (d : Device). reply (replyBytes (good (timer t (d .settings)) 0) [])) same
-      ∙ ap (λ (n : ℕ). reply (replyBytes (good n 0) [])) (seventy t)
-      ∙ ap reply seventy-reply
-    where
-      seventy : (t : Direction) → timer t (on .device .settings) ≡ 70
-      seventy read = timers-on .0
-      seventy write = timers-on .1
+  seventy : (t : Direction) → timer t (on .device .settings) ≡ 70
+  seventy read = timers-on .0
+  seventy write = timers-on .1
+
+  -- a request that asks for either timer, taken straight after the power-on and served
+  module _ (s : Serving) (m : List ℕ) (port : s .port < portCount) (size : length m ≡ mailboxSize) (isKey : requestOf m ≡ keySector) (t : Direction) (action : get 2 m 16 ≡ 3) (function : get 2 m 18 ≡ 2) (named : get 2 m 20 ≡ directionNumber t) where
+    abbrev served : Machine
+    served = serveOn s (step (take (s .port) m) on .state) .state
+
+    replied-seventy : served .ports (s .port) ≡ reply (form 1040 ((2, 1, 0x46) ∷ (12, 1, 0x50) ∷ []))
+    replied-seventy =
+        let is = power-on-leaves image used M answers in
+        let taken = take-keeps (s .port) m on port size (is .ports (s .port)) in
+        let same = take-alone (s .port) m on (ap (λ (o : Seen). o .answer) (taken .0)) .device in
+        let unlocked = ap (λ (d : Device). d .locked) (same ∙ is .device) ∙ kept-rules (restored (length (M .disk .sectors) / 512) image used) .unlocked in
+        returns-timer s (step (take (s .port) m) on .state) m port (taken .1) isKey unlocked t action named function
+        ∙ ap (λ (d : Device). reply (replyBytes (good (timer t (d .settings)) 0) [])) same
+        ∙ ap (λ (n : ℕ). reply (replyBytes (good n 0) [])) (seventy t)
+        ∙ ap reply seventy-reply
+
+    -- THEOREM: the give answers 0, and the mailbox then has 0046h: 46h in Sector Count, 0 in LBA Low, Status 50h, and every other byte 0.
+    pub returns-seventy : (n : List ℕ) → length n ≡ mailboxSize → step (give (s .port) n) served .seen ≡ answeredMailbox 0 (form 1040 ((2, 1, 0x46) ∷ (12, 1, 0x50) ∷ []))
+    returns-seventy n whole = give-delivers (s .port) n _ served port whole replied-seventy .0

@@ -104,7 +104,7 @@ port-other p q x ports ne = rw (ne-eqb q p ne)
 
 -- ---- take and give
 
--- Take "copies the mailbox into the port's slot": the port holds the mailbox's bytes, whatever they are
+-- Take "copies the mailbox into the port's slot": it answers 0, and the port holds the mailbox's bytes, whatever they are
 pub take-keeps : (p : ℕ) (m : List ℕ) (M : Machine) → p < portCount → length m ≡ mailboxSize → M .ports p ≡ empty
     → (step (take p m) M .seen ≡ answeredMailbox done m) × (step (take p m) M .state .ports p ≡ request m)
 take-keeps p m M h size e =

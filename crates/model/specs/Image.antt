@@ -262,7 +262,7 @@ blank native =
 abbrev pub kept : Feature → Feature
 kept f = record { state = if f .persistent then f .state else 1; persistent = f .persistent }
 
--- the settings at power-on, from the two timers and the three features as they were saved
+-- the settings at power-on, from two timers, and from the three features as they were saved
 abbrev pub settingsOf : ℕ → ℕ → Feature → Feature → Feature → Settings
 settingsOf forRead forWrite cache reordering interval =
     record {

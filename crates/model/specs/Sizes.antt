@@ -39,7 +39,7 @@ historySize = 478
 abbrev pub missing : ℕ
 missing = 0x80
 
--- "Timers return to 0 at power-on."; W-203: "Both error recovery timers shall be 70 (7 seconds) at power-on."
+-- W-203: "Both error recovery timers shall be 70 (7 seconds) at power-on."
 abbrev pub powerOnTimer : ℕ
 powerOnTimer = 70
 

@@ -37,7 +37,7 @@ fn has_bit(weight: u8, byte: u8) -> bool
     byte / weight % 2 == 1
 }
 
-// The settings of the entry at `at`, as power-on keeps them.
+// The settings of the entry at `at`, as power-on keeps them, with the timers of power-on.
 fn saved_settings(image: &[u8], at: usize) -> Settings
     requires { ⌜ at + bodySize ≤ length (now image) ⌝ }
     ensures { λ r. ⌜ asSettings r ≡ powerOnSettings (savedAt (now (image .entry)) at) ⌝ }

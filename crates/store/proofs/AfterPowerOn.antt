@@ -1,4 +1,4 @@
--- What holds for every list of steps after a power-on that answers 0, in addition to condition 3.
+-- What holds of a power-on that answers 0, and for every list of steps after it, in addition to condition 3.
 use mathlib.Core.Path.{_≡_, sym, ap, _∙_}
 use Prim.Native.Nat.{ℕ, _*_, _≤_}
 use mathlib.Core.List.{List, [], _∷_, _++_}
@@ -65,9 +65,9 @@ module _ (r a : List ℕ) (disk : Disk) (image : List ℕ) (used : ℕ) (answers
   valid-after xs fed = list-valid xs start fed start-valid
 
   -- THEOREM: after a power-on that answers 0, from an empty image or a saved one, both recovery timers of the record are 70 (W-203).
-  pub timers-after : (get 2 (start .recordArea) 26 ≡ 70) × (get 2 (start .recordArea) 28 ≡ 70)
+  pub power-on-timers : (get 2 (start .recordArea) 26 ≡ 70) × (get 2 (start .recordArea) 28 ≡ 70)
   unfolding machineOf decode poweredOn
-  timers-after =
+  power-on-timers =
       let same = condition-3 r a disk image used diskBytes checkBytes imageBytes .followed answers [] tt .afterPowerOn in
       let kept = kept-rules (restored (nativeSize disk) image used) .timers in
       (ap (λ (M : Machine). M .device .settings .readTimer) same ∙ kept .0, ap (λ (M : Machine). M .device .settings .writeTimer) same ∙ kept .1)

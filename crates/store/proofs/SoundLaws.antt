@@ -67,13 +67,6 @@ pending-tests : (visible : ℕ) (ts : List Transfer) → PendingValid visible ts
 pending-tests visible [] v = refl
 pending-tests visible (t ∷ ts) v = rw (transfer-tests visible t (v .0), pending-tests visible ts (v .1))
 
-timer-clause : (n : ℕ) → timerSound n ≡ true → TimerValid n
-timer-clause n e = go (eqb n 0) refl e
-  where
-    go : (b : Bool) → eqb n 0 ≡ b → (b || leb 10 n) ≡ true → TimerValid n
-    go true z e = inl (eqb-true n 0 z)
-    go false z e = inr (leb-true 10 n e)
-
 timer-test : (n : ℕ) → TimerValid n → timerSound n ≡ true
 timer-test n (inl e) = rw e
 timer-test n (inr h) = go (eqb n 0)
@@ -81,6 +74,13 @@ timer-test n (inr h) = go (eqb n 0)
     go : (b : Bool) → (b || leb 10 n) ≡ true
     go true = refl
     go false = le-leb 10 n h
+
+timer-clause : (n : ℕ) → timerSound n ≡ true → TimerValid n
+timer-clause n e = go (eqb n 0) refl e
+  where
+    go : (b : Bool) → eqb n 0 ≡ b → (b || leb 10 n) ≡ true → TimerValid n
+    go true z e = inl (eqb-true n 0 z)
+    go false z e = inr (leb-true 10 n e)
 
 -- what the widths of the record's fields state about a device, in addition to the clauses
 pub record DeviceFits (d : Device) : Type 0 where
