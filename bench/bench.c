@@ -5,10 +5,10 @@
  *
  *   bench [rounds]      31 rounds if none are given
  *
- * "Exchange" is take, serve and give in a row. The reference is a plain C
- * program that opens the record into a struct, decides, and writes it back. In
- * one row the reference's column has memcpy, in another a plain C loop over the
- * bits of a sector, which makes its check.
+ * "Exchange" is take, serve and give in a row; "convert, there and back" is two
+ * calls. The reference is a plain C program that opens the record into a struct,
+ * decides, and writes it back. In one row the reference's column has memcpy, in
+ * another a plain C loop over the bits of a sector, which makes its check.
  */
 #define _POSIX_C_SOURCE 200809L
 
@@ -62,7 +62,7 @@ static void make_image(unsigned entries)
     struct random r = random_for(5, 5);
 
     for (uint32_t k = 1; k <= entries; k++)
-        random_entry(&r, image, k, SECTORS);
+        random_entry(&r, image, k, SECTORS, SCT_FORM_1);
     image_used = (uint64_t)SCT_ENTRY_BYTES * entries;
 }
 
@@ -98,6 +98,13 @@ static void exchange(const struct implementation *code, const uint8_t *mail)
 static void save(const struct implementation *code)
 {
     expect_done(code->save(device, sizeof device, image, sizeof image, image_used));
+}
+
+/* To form 2 and back to form 1, which the image of make_image has. */
+static void convert(const struct implementation *code)
+{
+    for (uint32_t form = SCT_FORM_2; form >= SCT_FORM_1; form--)
+        expect_done(code->convert(image, sizeof image, image_used, form));
 }
 
 /* One sector with random bits, as the check costs may depend on them. */
@@ -166,6 +173,7 @@ MEASURE(save_last, (start(code), make_image(116)), save(code))
 MEASURE(power_on_0, make_image(0), power_on(code))
 MEASURE(power_on_1, make_image(1), power_on(code))
 MEASURE(power_on_117, make_image(117), power_on(code))
+MEASURE(convert_117, make_image(117), convert(code))
 
 /*
  * Serve alone, for all ports in a row: takes and gives are not counted. Before
@@ -311,6 +319,7 @@ static const struct {
     { "power-on, no entry",                   run_power_on_0,   8000 },
     { "power-on, 1 entry",                    run_power_on_1,   8000 },
     { "power-on, 117 entries",                run_power_on_117,  300 },
+    { "convert, 117 entries, there and back", run_convert_117,   300 },
 };
 
 enum { MEASURES = sizeof measures / sizeof measures[0] };

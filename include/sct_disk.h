@@ -17,7 +17,8 @@
  *               is 0; low byte first.
  *   mailbox     1,040 bytes, one for each port: 16 of registers, then two
  *               sectors, of which only Long Sector Access uses the second.
- *   image       any length. Its first `used` bytes are saved entries of 560.
+ *   image       any length. Its first `used` bytes are saved entries of 560, all
+ *               of one form: form 1 has no recovery timers, form 2 has them.
  *
  * What the caller guarantees:
  *   - A pointer is valid for as many bytes as its length states. With length 0
@@ -84,20 +85,24 @@ extern "C" {
 #define SCT_ENTRIES_LIMIT    117u
 #define SCT_IMAGE_LIMIT      65520u  /* 117 entries */
 #define SCT_NATIVE_LIMIT     65536u  /* sectors */
+#define SCT_FORM_1           1u      /* entries without timers */
+#define SCT_FORM_2           2u      /* with them */
 
 /* ---- Answers ------------------------------------------------------------- */
 
-/* Where several apply, the first of 4, 2, 1, 5, 3, 6, 7, 8 is given. */
+/* Where several apply, the first of 4, 2, 1, 5, 3, 6, 7, 8, 9 is given. */
 enum sct_answer {
-    SCT_DONE       = 0,
-    SCT_BAD_PORT   = 1,  /* port above 3 */
-    SCT_BAD_LENGTH = 2,  /* a buffer is not of its size, or used exceeds it */
-    SCT_BAD_STAGE  = 3,  /* the slot is not in the stage that the step needs */
-    SCT_BAD_RECORD = 4,  /* the record is unsound; so is one of another size */
-    SCT_BAD_VALUE  = 5,  /* set V: V is 0 or above N; repair: the LBA is not below V */
-    SCT_BAD_IMAGE  = 6,  /* the image, or its used length, is not readable */
-    SCT_OTHER_DISK = 7,  /* the newest entry is of a disk of another N */
-    SCT_IMAGE_FULL = 8   /* the image has 117 entries, or no 560 bytes more */
+    SCT_DONE         = 0,
+    SCT_BAD_PORT     = 1,  /* port above 3 */
+    SCT_BAD_LENGTH   = 2,  /* a buffer is not of its size, or used exceeds it */
+    SCT_BAD_STAGE    = 3,  /* the slot is not in the stage that the step needs */
+    SCT_BAD_RECORD   = 4,  /* the record is unsound; so is one of another size */
+    SCT_BAD_VALUE    = 5,  /* set V: V is 0 or above N; repair: the LBA is not below V;
+                              convert: the form is not 1 or 2 */
+    SCT_BAD_IMAGE    = 6,  /* the image, or its used length, is not readable */
+    SCT_OTHER_DISK   = 7,  /* the newest entry is of a disk of another N */
+    SCT_IMAGE_FULL   = 8,  /* the image has 117 entries, or no 560 bytes more */
+    SCT_OTHER_TIMERS = 9   /* convert to form 1: an entry's timers are not 70 and 70 */
 };
 
 /* ---- A request: take, serve, give ---------------------------------------- */
@@ -221,7 +226,9 @@ static inline uint32_t sct_repair_report(uint64_t result)
 
 /*
  * Adds one entry to the image, after its used length. After answer 0 the used
- * length is used + 560; it is not returned, and the caller keeps it.
+ * length is used + 560; it is not returned, and the caller keeps it. The entry
+ * is of the form of those before it, and of form 2 where there is none; one of
+ * form 1 leaves the timers out, whatever they are.
  * Refusals: 4; 2 used exceeds the image; 6; 7; 8.
  * Changes: the 560 bytes of the image from used on.
  */
@@ -230,8 +237,9 @@ uint32_t SCT_CALL sct_save(const uint8_t *device, size_t device_length,
 
 /*
  * Starts the device from the newest entry of the image; with used 0 as a new
- * disk, with V = N. Either way both error recovery timers are 70, 7 seconds: a
- * setup tool that relied on 0, no limit, must set 0 itself after each power-on.
+ * disk, with V = N. Both error recovery timers are as an entry of form 2 has
+ * them; from an entry of form 1 and with used 0 they are 70, 7 seconds, and a
+ * setup tool that relied on 0, no limit, must set 0 itself.
  * What the record held is not judged. Of disk and check area only the lengths
  * are used: check bytes are neither judged nor computed.
  * Refusals: 2 record, private area, disk not 1 to 65,536 whole sectors, check
@@ -243,6 +251,18 @@ uint32_t SCT_CALL sct_power_on(uint8_t *device, size_t device_length,
                                const uint8_t *disk, size_t disk_length,
                                const uint8_t *check_area, size_t check_area_length,
                                const uint8_t *image, size_t image_length, uint64_t used);
+
+/* ---- The form of an image ------------------------------------------------ */
+
+/*
+ * Converts all entries of the image to form 1 or form 2; entries of form 1 stand
+ * for the timers 70 and 70. An image that is already of that form stays, and so
+ * does an empty one, whose first entry will be of form 2. It is no step of a
+ * device: there is no record.
+ * Refusals: 2 used exceeds the image; 5; 6 entries of both forms too; 9.
+ * Changes: bytes 25 to 29 of each entry below used.
+ */
+uint32_t SCT_CALL sct_convert(uint8_t *image, size_t image_length, uint64_t used, uint32_t form);
 
 #ifdef __cplusplus
 }

@@ -1,5 +1,5 @@
 /*
- * ms.c - the eleven entries, called from a file with another calling convention.
+ * ms.c - the twelve entries, called from a file with another calling convention.
  *
  * It is compiled with -mabi=ms, as firmware of the UEFI kind is. The header's
  * SCT_CALL must make every call one of the System V convention; main carries
@@ -15,6 +15,7 @@
 typedef char other_convention[__builtin_types_compatible_p(int (void), int SCT_CALL (void)) ? -1 : 1];
 
 enum { NATIVE = 8, VISIBLE = 6, PORT = 2, COUNT = 2, COMMAND = 11, STATUS = 12, ERROR = 13, LOCKED = 16, NOW = 40 };
+enum { FORM = 25 };         /* in an entry; its timers follow */
 
 static uint8_t device[SCT_RECORD_BYTES];
 static uint8_t area[SCT_PRIVATE_BYTES];
@@ -96,11 +97,26 @@ static int check_repair(void)
     return 0;
 }
 
+/* The image that was saved is of form 2, with the timers 70 and 70. */
+static int check_convert(void)
+{
+    CHECK(23, image[FORM] == 2 && image[FORM + 1] == 70 && image[FORM + 3] == 70);
+    CHECK(24, sct_convert(image, sizeof image, sizeof image, (uint32_t)1 << 31 | SCT_FORM_1) == SCT_BAD_VALUE);
+    CHECK(25, sct_convert(image, sizeof image, (uint64_t)1 << 32, SCT_FORM_1) == SCT_BAD_LENGTH);
+    CHECK(26, sct_convert(image, sizeof image, sizeof image, SCT_FORM_1) == SCT_DONE && image[FORM] == 0);
+    CHECK(27, sct_convert(image, sizeof image, sizeof image, SCT_FORM_2) == SCT_DONE && image[FORM] == 2);
+    image[FORM + 3] = 71;
+    CHECK(28, sct_convert(image, sizeof image, sizeof image, SCT_FORM_1) == SCT_OTHER_TIMERS);
+    return 0;
+}
+
 int SCT_CALL main(void)
 {
     int failed = check_owner_steps();
 
     if (failed == 0)
         failed = check_request();
-    return failed != 0 ? failed : check_repair();
+    if (failed == 0)
+        failed = check_repair();
+    return failed != 0 ? failed : check_convert();
 }

@@ -1,4 +1,4 @@
-/* implementation.h - the eleven entries as a table, so that tests can run two. */
+/* implementation.h - the twelve entries as a table, so that tests can run two. */
 #ifndef TEST_IMPLEMENTATION_H
 #define TEST_IMPLEMENTATION_H
 
@@ -18,6 +18,7 @@ struct implementation {
     uint32_t (*sample)(uint8_t *, size_t, uint8_t);
     uint64_t (*repair)(uint8_t *, size_t, uint8_t *, size_t, const uint8_t *, size_t, uint64_t);
     uint32_t (*save)(const uint8_t *, size_t, uint8_t *, size_t, uint64_t);
+    uint32_t (*convert)(uint8_t *, size_t, uint64_t, uint32_t);
 };
 
 extern const struct implementation archive;     /* sct_* */

@@ -269,7 +269,27 @@ void spoil_record(struct random *r, uint8_t *record)
     encode_record(record, &f);
 }
 
-void random_entry(struct random *r, uint8_t *image, uint32_t number, uint64_t native)
+void put_form(uint8_t *entry, uint32_t form, uint16_t read_timer, uint16_t write_timer)
+{
+    memset(entry + 25, 0, 5);
+    if (form == SCT_FORM_1)
+        return;
+    entry[25] = 2;
+    put16(entry + 26, read_timer);
+    put16(entry + 28, write_timer);
+}
+
+/* Half of the time 70 and 70, from which an image can go back to form 1. */
+static void random_form(struct random *r, uint8_t *entry, uint32_t form)
+{
+    bool as_at_first = once_in(r, 2);
+    uint16_t read_timer = random_timer(r);
+    uint16_t write_timer = random_timer(r);
+
+    put_form(entry, form, as_at_first ? 70 : read_timer, as_at_first ? 70 : write_timer);
+}
+
+void random_entry(struct random *r, uint8_t *image, uint32_t number, uint64_t native, uint32_t form)
 {
     uint8_t *body = image + (size_t)SCT_ENTRY_BYTES * (number - 1);
     uint8_t *trailer = body + 544;
@@ -284,6 +304,7 @@ void random_entry(struct random *r, uint8_t *image, uint32_t number, uint64_t na
     put16(body + 20, (uint16_t)between(r, 1, 2));
     put16(body + 22, interval);
     body[24] = (uint8_t)below(r, 8);
+    random_form(r, body, form);
     encode_table_constants(body + 32);
     random_history(r, body + 66);
     put16(body + 36, interval);

@@ -55,8 +55,11 @@ void random_record(struct random *r, uint8_t *record, uint64_t native);
 /* Moves one number of the record to, or just over, a limit of its range. */
 void spoil_record(struct random *r, uint8_t *record);
 
-/* Writes entry number `number` (from 1) of a chain, with a random body. */
-void random_entry(struct random *r, uint8_t *image, uint32_t number, uint64_t native);
+/* Bytes 25 to 29 of an entry: its form, with the timers if that is form 2. */
+void put_form(uint8_t *entry, uint32_t form, uint16_t read_timer, uint16_t write_timer);
+
+/* Writes entry number `number` (from 1) of a chain, with a random body of this form. */
+void random_entry(struct random *r, uint8_t *image, uint32_t number, uint64_t native, uint32_t form);
 
 /* A reading: often one at a limit of its range. */
 uint8_t random_reading(struct random *r);

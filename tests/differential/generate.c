@@ -464,8 +464,25 @@ static size_t room_for(struct random *r, uint64_t used)
     return (size_t)(length <= IMAGE_ROOM ? length : IMAGE_ROOM);
 }
 
+/* One timer or both, accepted: what a save then has, if it is of form 2. */
+static void set_timers(struct list *l)
+{
+    static const uint16_t values[] = { 0, 10, 70, 70, 71, 0x4600, 65535 };
+    struct random *r = &l->random;
+    uint8_t mailbox[SCT_MAILBOX_BYTES];
+
+    for (uint64_t i = between(r, 1, 2); i > 0; i--) {
+        uint16_t timer = (uint16_t)between(r, 1, 2);
+
+        build_key(mailbox, SMART, 3, 1, timer, PICK(r, values), 0);
+        exchange(l, free_port(l), mailbox);
+    }
+}
+
 static void plan_save(struct list *l)
 {
+    if (once_in(&l->random, 3))
+        set_timers(l);
     for (uint64_t i = between(&l->random, 1, 3); i > 0; i--)
         add(l, SAVE)->length[IMAGE] = room_for(&l->random, l->pair->used);
     if (l->pair->used > 6 * SCT_ENTRY_BYTES && l->style != IMAGES)
@@ -485,6 +502,34 @@ static void plan_power_on(struct list *l)
         step->null_if_empty = once_in(r, 2);
 }
 
+/* Mostly one of the two forms; else a number that is none, though its low bits may be. */
+static void convert(struct list *l)
+{
+    static const uint32_t wrong[] = {
+        0, 3, 4, 0x100, 0x101, 0x102, 0x10001, 0x10002, 0x80000001, 0x80000002, 0xFFFFFFFF
+    };
+    struct random *r = &l->random;
+    struct step *step = add(l, CONVERT);
+
+    step->form = once_in(r, 8) ? PICK(r, wrong) : (uint32_t)between(r, SCT_FORM_1, SCT_FORM_2);
+    step->length[IMAGE] = once_in(r, 3) ? (size_t)l->pair->used : room_for(r, l->pair->used);
+    step->null_if_empty = once_in(r, 2);
+}
+
+/* The image is converted, perhaps read or longer by an entry, and converted again. */
+static void plan_convert(struct list *l)
+{
+    struct random *r = &l->random;
+
+    convert(l);
+    if (once_in(r, 3))
+        add(l, SAVE);
+    if (once_in(r, 2))
+        plan_power_on(l);
+    if (once_in(r, 2))
+        convert(l);
+}
+
 static uint64_t any_native(struct list *l)
 {
     const uint64_t sizes[] = { 1, 2, l->pair->sectors - 1, l->pair->sectors + 1, 65535, 65536, 65537 };
@@ -501,23 +546,39 @@ static void plan_new_image(struct list *l)
     step->seed = random64(r);
     step->native = any_native(l);
     step->chain = (uint32_t)(once_in(r, 12) ? between(r, 115, 117) : between(r, 0, 5));
+    step->form = (uint32_t)between(r, SCT_FORM_1, SCT_FORM_2);
+    if (step->chain > 1 && once_in(r, 6))
+        step->foreign = (uint32_t)between(r, 1, step->chain);
     plan_power_on(l);
     plan_save(l);
+    if (once_in(r, 2))
+        plan_convert(l);
+}
+
+/* A byte of an entry, but not of the history, which may hold anything; often one of its form and timers. */
+static uint64_t any_place(struct random *r)
+{
+    switch (below(r, 3)) {
+    case 0:  return below(r, 66);
+    case 1:  return between(r, 25, 31);
+    default: return between(r, 540, 559);
+    }
 }
 
 /* One byte of the image changes; then it is read, and sometimes put right. */
 static void plan_damage(struct list *l)
 {
-    static const uint8_t values[] = { 0, 1, 2, 3, 8, 0x7F, 0x80, 0xFE, 0xFF };
+    static const uint8_t values[] = { 0, 1, 2, 3, 8, 9, 10, 0x7F, 0x80, 0xFE, 0xFF };
     struct random *r = &l->random;
     uint64_t used = l->pair->used;
     size_t offset = (size_t)below(r, used == 0 ? SCT_ENTRY_BYTES : used);
 
-    if (once_in(r, 2) && used != 0)     /* not in the history, which may hold anything */
-        offset = offset / SCT_ENTRY_BYTES * SCT_ENTRY_BYTES + (once_in(r, 2) ? below(r, 66) : between(r, 540, 559));
+    if (once_in(r, 2) && used != 0)
+        offset = offset / SCT_ENTRY_BYTES * SCT_ENTRY_BYTES + any_place(r);
     add_edit(l, EDIT_IMAGE, offset, once_in(r, 2) ? PICK(r, values) : one_bit_off(r, l->pair->image[offset]));
     add(l, POWER_ON);
     add(l, SAVE);
+    convert(l);
     if (once_in(r, 2))
         add_edit(l, EDIT_IMAGE, offset, l->pair->image[offset]);
 }
@@ -530,8 +591,10 @@ static void plan_used(struct list *l)
         0, used - 560, used + 560, used - 1, used + 1, 559, 561, 65519, 65520, 65521, 66080, 69999, 70000, 70001,
         0x100000000 + used, 0 - (uint64_t)560, UINT64_MAX
     };
-    struct step *step = add(l, once_in(r, 2) ? SAVE : POWER_ON);
+    static const enum entry entries[] = { SAVE, POWER_ON, CONVERT };
+    struct step *step = add(l, PICK(r, entries));
 
+    step->form = (uint32_t)between(r, 0, 3);
     set_used(step, PICK(r, lengths));
     step->length[IMAGE] = once_in(r, 2) ? IMAGE_ROOM : room_for(r, used);
     if (once_in(r, 3))
@@ -917,6 +980,7 @@ static const struct {
     { plan_sample,      {  2,  1,  1, 20,  2,  2,  3,  4 } },
     { plan_save,        {  1,  1,  1,  1, 12,  1,  3,  2 } },
     { plan_power_on,    {  1,  1,  1,  1,  6,  1,  3,  1 } },
+    { plan_convert,     {  1,  0,  0,  0,  8,  0,  3,  0 } },
     { plan_new_image,   {  1,  0,  0,  0,  4,  0,  2,  0 } },
     { plan_damage,      {  1,  0,  0,  0, 10,  0,  2,  0 } },
     { plan_used,        {  1,  0,  0,  0,  4,  0,  4,  0 } },
@@ -1012,6 +1076,7 @@ static void distort(struct list *l, struct step *step)
     if (once_in(r, 6)) {
         step->visible = 0;
         step->lba = l->pair->sectors;
+        step->form = 0;
     }
 }
 

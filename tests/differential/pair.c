@@ -141,6 +141,11 @@ struct step plain_step(const struct pair *pair, enum entry entry)
 
 /* ---- What the harness does between steps --------------------------------- */
 
+uint32_t other_form(uint32_t form)
+{
+    return form == SCT_FORM_1 ? SCT_FORM_2 : SCT_FORM_1;
+}
+
 static void edit(struct pair *pair, const struct step *step)
 {
     struct random r = { step->seed };
@@ -159,7 +164,7 @@ static void edit(struct pair *pair, const struct step *step)
         break;
     case NEW_IMAGE:
         for (uint32_t k = 1; k <= step->chain; k++)
-            random_entry(&r, pair->image, k, step->native);
+            random_entry(&r, pair->image, k, step->native, k == step->foreign ? other_form(step->form) : step->form);
         pair->used = (uint64_t)SCT_ENTRY_BYTES * step->chain;
         break;
     case FLIP_BIT:
@@ -276,8 +281,10 @@ static uint64_t call(const struct side *side, const struct step *step)
     case REPAIR:
         return code->repair(at[RECORD], length[RECORD], at[DISK], length[DISK],
                             at[CHECK_AREA], length[CHECK_AREA], step->lba);
-    default:
+    case SAVE:
         return (uint64_t)code->save(at[RECORD], length[RECORD], at[IMAGE], length[IMAGE], step->used) << 32;
+    default:
+        return (uint64_t)code->convert(at[IMAGE], length[IMAGE], step->used, step->form) << 32;
     }
 }
 
@@ -323,6 +330,28 @@ static bool buffer_agrees(const struct pair *pair, const struct step *step, enum
     if (answer != SCT_DONE || !entry_may_change(step->entry, b))
         agrees &= same(b, one->code->name, one->passed[b], "before", before[b], step->length[b]);
     return agrees;
+}
+
+/* The image from here to there is what was passed. */
+static bool image_stays(const struct pair *pair, size_t from, size_t to)
+{
+    return same(IMAGE, "written where it may not be", pair->side[0].passed[IMAGE] + from,
+                "before", before[IMAGE] + from, to - from);
+}
+
+/* An accepted convert changes bytes 25 to 29 of the entries below the used length, and no other byte. */
+static bool forms_alone_change(const struct pair *pair, const struct step *step)
+{
+    size_t length = step->length[IMAGE];
+    size_t end = step->used < length ? (size_t)step->used : length;
+    size_t from = 0;
+    bool stays = true;
+
+    for (size_t entry = 0; entry + SCT_ENTRY_BYTES <= end; entry += SCT_ENTRY_BYTES) {
+        stays &= image_stays(pair, from, entry + 25);
+        from = entry + 30;
+    }
+    return (length == 0 || image_stays(pair, from, length)) && stays;
 }
 
 static bool other_agrees(const struct pair *pair, const struct step *step, enum buffer b)
@@ -440,6 +469,8 @@ static bool everything_agrees(struct pair *pair, const struct step *step, const 
             agrees &= other_agrees(pair, step, b);
     if (entry_has(step->entry, DISK))
         agrees &= disk_agrees(pair, step, result[0]);
+    if (step->entry == CONVERT && answer == SCT_DONE)
+        agrees &= forms_alone_change(pair, step);
     for (int s = 0; s < 2; s++)
         agrees &= guards_agree(pair, &pair->side[s], step);
     return agrees;
@@ -455,10 +486,10 @@ static void keep(struct pair *pair, const struct step *step)
         memcpy(pair->record, side->passed[RECORD], SCT_RECORD_BYTES);
     if (entry_may_change(step->entry, PRIVATE_AREA))
         memcpy(pair->area, side->passed[PRIVATE_AREA], SCT_PRIVATE_BYTES);
-    if (step->entry == SAVE) {
+    if (entry_may_change(step->entry, IMAGE) && step->length[IMAGE] != 0)
         memcpy(pair->image, side->passed[IMAGE], step->length[IMAGE]);
+    if (step->entry == SAVE)
         pair->used = step->used + SCT_ENTRY_BYTES;
-    }
 }
 
 /* Another core writes the mailbox: a later look at it finds this. */

@@ -69,6 +69,9 @@ bool pair_finish(struct pair *pair);
 /* A step with its right lengths, everything else 0. */
 struct step plain_step(const struct pair *pair, enum entry entry);
 
+/* The other form of an image's entries. */
+uint32_t other_form(uint32_t form);
+
 /* A bit to flip, as struct step has it: of the data, of the check or of its bits that are always 0. */
 unsigned random_bit(struct random *r);
 

@@ -4,7 +4,7 @@
 
 #include "pair.h"
 
-enum { ANSWERS = 9, REPORTS = 3, CODES = 0x13, OUTCOMES = CODES + 3 };
+enum { ANSWERS = 10, REPORTS = 3, CODES = 0x13, OUTCOMES = CODES + 3 };
 
 struct statistics {
     uint64_t lists, steps, sweep_steps;

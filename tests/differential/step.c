@@ -5,7 +5,7 @@
 #include "request.h"
 
 const char *const entry_name[STEP_KINDS] = {
-    "power-on", "take", "serve", "give", "work", "lock", "unlock", "set V", "sample", "repair", "save",
+    "power-on", "take", "serve", "give", "work", "lock", "unlock", "set V", "sample", "repair", "save", "convert",
     "edit image", "edit record", "new image", "new record", "used length", "flip bit"
 };
 
@@ -30,6 +30,7 @@ static const char buffers_of[ENTRIES][BUFFERS + 1] = {
     [SAMPLE]      = "m.....",
     [REPAIR]      = "m...mc",
     [SAVE]        = "c..m..",
+    [CONVERT]     = "...m..",
 };
 
 bool entry_has(enum entry entry, enum buffer buffer)
@@ -159,7 +160,10 @@ static void print_edit(FILE *out, const struct step *step)
         fprintf(out, ": byte %zu (%s) becomes %02Xh", step->offset, field_at(step->offset), step->value);
         break;
     case NEW_IMAGE:
-        fprintf(out, ": %u entries of a disk of %llu sectors", step->chain, (unsigned long long)step->native);
+        fprintf(out, ": %u entries of form %u, of a disk of %llu sectors", step->chain, step->form,
+                (unsigned long long)step->native);
+        if (step->foreign != 0)
+            fprintf(out, "; entry %u of the other form", step->foreign);
         break;
     case NEW_RECORD:
         fprintf(out, ": %s, of a disk of %llu sectors", step->spoilt ? "one number moved" : "sound",
@@ -206,6 +210,9 @@ void print_step(FILE *out, const struct step *step, uint64_t sectors)
     case SAVE:
     case POWER_ON:
         fprintf(out, ", used %llu", (unsigned long long)step->used);
+        break;
+    case CONVERT:
+        fprintf(out, " to form %u, used %llu", step->form, (unsigned long long)step->used);
         break;
     default:
         break;

@@ -9,9 +9,9 @@
 
 #include "sct_disk.h"
 
-/* The eleven entries, then what the harness itself may do between them. */
+/* The twelve entries, then what the harness itself may do between them. */
 enum entry {
-    POWER_ON, TAKE, SERVE, GIVE, WORK, LOCK, UNLOCK, SET_VISIBLE, SAMPLE, REPAIR, SAVE,
+    POWER_ON, TAKE, SERVE, GIVE, WORK, LOCK, UNLOCK, SET_VISIBLE, SAMPLE, REPAIR, SAVE, CONVERT,
     ENTRIES,
     EDIT_IMAGE = ENTRIES,   /* one byte of the image changes */
     EDIT_RECORD,            /* one byte of the record changes */
@@ -30,10 +30,11 @@ struct step {
     uint32_t   port;
     uint32_t   n;                       /* work */
     uint64_t   visible;                 /* set V */
-    uint64_t   used;                    /* save, power-on */
+    uint64_t   used;                    /* save, power-on, convert */
     bool       used_now;                /* use the length of that moment instead */
     uint8_t    reading;                 /* sample */
     uint64_t   lba;                     /* repair */
+    uint32_t   form;                    /* convert, new image */
     size_t     length[BUFFERS];         /* as passed */
     bool       null_if_empty;           /* pass NULL where the length is 0 */
     uint8_t    mailbox[SCT_MAILBOX_BYTES];  /* what it holds at take or give */
@@ -43,6 +44,7 @@ struct step {
     uint64_t   seed, native;            /* new image, new record */
     bool       spoilt;
     uint32_t   chain;
+    uint32_t   foreign;                 /* new image: the entry of the other form, or 0 */
 };
 
 extern const char *const entry_name[STEP_KINDS];

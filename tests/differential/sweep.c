@@ -164,15 +164,16 @@ static struct step step_of(const struct pair *pair, enum entry entry)
     step.visible = VISIBLE - 2;
     step.reading = 0x21;
     step.lba = VISIBLE - 1;
+    step.form = SCT_FORM_1;
     build_status(step.mailbox, SMART);
     return step;
 }
 
-/* Every entry over the start's record with one byte changed. */
+/* Every entry that has a record, over the start's with one byte changed. */
 static bool try_byte(struct pair *pair, struct statistics *s, struct start *start, size_t offset, uint8_t value)
 {
     for (enum entry e = 0; e < ENTRIES; e++) {
-        unsigned requests = e == SERVE ? HELD_REQUESTS : 1;
+        unsigned requests = e == SERVE ? HELD_REQUESTS : entry_has(e, RECORD);
 
         for (unsigned number = 0; number < requests; number++) {
             struct step step;
@@ -218,28 +219,74 @@ bool sweep_records(struct pair *pair, struct statistics *s, bool thorough)
 
 /* ---- Images ------------------------------------------------------------------- */
 
-static bool read_image(struct pair *pair, struct statistics *s, const struct start *start)
-{
-    struct step power_on = plain_step(pair, POWER_ON);
-    struct step save = plain_step(pair, SAVE);
+/* What an entry that reads an image may change, to be put back after it. */
+struct kept {
+    uint8_t  record[SCT_RECORD_BYTES];
+    uint8_t  image[SCT_IMAGE_LIMIT];
+    uint64_t used;
+};
 
-    if (!sweep_step(pair, s, &save))
-        return false;
-    pair->used = start->used;
-    return sweep_step(pair, s, &power_on);
+static void keep_image(struct kept *kept, const struct pair *pair)
+{
+    memcpy(kept->record, pair->record, sizeof kept->record);
+    memcpy(kept->image, pair->image, sizeof kept->image);
+    kept->used = pair->used;
 }
 
-bool sweep_images(struct pair *pair, struct statistics *s, bool thorough)
+static void put_back(struct pair *pair, const struct kept *kept)
+{
+    memcpy(pair->record, kept->record, sizeof kept->record);
+    memcpy(pair->image, kept->image, sizeof kept->image);
+    pair->used = kept->used;
+}
+
+/* The entries that read an image; convert also with forms that are none. */
+static const struct { enum entry entry; uint32_t form; } readers[] = {
+    { SAVE, 0 }, { POWER_ON, 0 }, { CONVERT, SCT_FORM_1 }, { CONVERT, SCT_FORM_2 },
+    { CONVERT, 0 }, { CONVERT, 3 }, { CONVERT, 0x102 }, { CONVERT, 0x80000001 }
+};
+
+enum { READERS = sizeof readers / sizeof readers[0], RIGHT_READERS = 4 };
+
+/* The first so many of them, each with the step's used length and room, over the same image. */
+static bool try_readers(struct pair *pair, struct statistics *s, struct step step, unsigned count)
+{
+    static struct kept kept;
+
+    keep_image(&kept, pair);
+    for (unsigned i = 0; i < count; i++) {
+        step.form = readers[i].form;
+        if (!sweep_as(pair, s, &step, readers[i].entry))
+            return false;
+        put_back(pair, &kept);
+    }
+    return true;
+}
+
+static bool read_image(struct pair *pair, struct statistics *s)
+{
+    return try_readers(pair, s, plain_step(pair, POWER_ON), RIGHT_READERS);
+}
+
+/* A chain of this form, from which an image can go back to form 1. */
+static void make_chain(struct pair *pair, struct random *r, uint32_t entries, uint32_t form)
+{
+    pair_reset(pair, r, SECTORS, AT_END);
+    base_record(r, pair->record, IDLE);
+    for (uint32_t k = 1; k <= entries; k++) {
+        random_entry(r, pair->image, k, SECTORS, form);
+        put_form(pair->image + SCT_ENTRY_BYTES * (k - 1), form, 70, 70);
+    }
+    pair->used = (uint64_t)SCT_ENTRY_BYTES * entries;
+}
+
+static bool sweep_images_of(struct pair *pair, struct statistics *s, bool thorough, uint32_t form)
 {
     static struct start start;
     struct random r = random_for(1, 2);
     uint8_t values[256];
 
-    pair_reset(pair, &r, SECTORS, AT_END);
-    base_record(&r, pair->record, IDLE);
-    for (uint32_t k = 1; k <= 3; k++)
-        random_entry(&r, pair->image, k, SECTORS);
-    pair->used = 3 * SCT_ENTRY_BYTES;
+    make_chain(pair, &r, 3, form);
     keep_start(&start, pair);
     for (size_t offset = 0; offset < sizeof start.image; offset++) {
         size_t place = offset % SCT_ENTRY_BYTES;
@@ -249,14 +296,19 @@ bool sweep_images(struct pair *pair, struct statistics *s, bool thorough)
         for (unsigned i = 0; i < count; i++) {
             go_to_start(pair, &start);
             pair->image[offset] = values[i];
-            if (!read_image(pair, s, &start)) {
-                printf("  with byte %zu of the image (%zu of its entry) at %02Xh, was %02Xh\n", offset,
-                       offset % SCT_ENTRY_BYTES, values[i], start.image[offset]);
+            if (!read_image(pair, s)) {
+                printf("  with byte %zu of the image of form %u (%zu of its entry) at %02Xh, was %02Xh\n", offset,
+                       form, offset % SCT_ENTRY_BYTES, values[i], start.image[offset]);
                 return false;
             }
         }
     }
     return true;
+}
+
+bool sweep_images(struct pair *pair, struct statistics *s, bool thorough)
+{
+    return sweep_images_of(pair, s, thorough, SCT_FORM_1) && sweep_images_of(pair, s, thorough, SCT_FORM_2);
 }
 
 /* ---- Chains -------------------------------------------------------------------- */
@@ -276,21 +328,75 @@ static bool try_used_lengths(struct pair *pair, struct statistics *s)
         step.used = lengths[i];
         for (size_t room = 0; room < 3; room++) {
             step.length[IMAGE] = room == 0 ? (size_t)right : room == 1 ? SCT_IMAGE_LIMIT : IMAGE_ROOM;
-            if (!sweep_as(pair, s, &step, POWER_ON) || !sweep_as(pair, s, &step, SAVE))
+            if (!try_readers(pair, s, step, READERS))
                 return false;
-            pair->used = right;
         }
     }
     return true;
 }
 
-/* Saves until the image is full, with a power-on from each length. */
-bool sweep_chain(struct pair *pair, struct statistics *s)
+/* Converts to this form and starts from the image: image and record are then what `wanted` has. */
+static bool convert_to(struct pair *pair, struct statistics *s, uint32_t form, const struct kept *wanted)
+{
+    struct step step = plain_step(pair, POWER_ON);
+
+    step.form = form;
+    if (!sweep_as(pair, s, &step, CONVERT) || !sweep_as(pair, s, &step, POWER_ON))
+        return false;
+    if (memcmp(pair->image, wanted->image, sizeof wanted->image) == 0 &&
+        memcmp(pair->record, wanted->record, sizeof wanted->record) == 0)
+        return true;
+    printf("  converted to form %u and back, the image or the record has changed\n", form);
+    return false;
+}
+
+/*
+ * The image goes to the other form and back, twice: its bytes are those that it
+ * had in that form before, and the record after power-on is always the same. If
+ * its timers keep it in form 2, both stay as well.
+ */
+static bool there_and_back(struct pair *pair, struct statistics *s, uint32_t form)
+{
+    static struct kept here, there;
+    struct step step = plain_step(pair, POWER_ON);
+    uint32_t other = other_form(form);
+
+    if (!sweep_step(pair, s, &step))
+        return false;
+    keep_image(&here, pair);
+    step.form = other;
+    if (!sweep_as(pair, s, &step, CONVERT))
+        return false;
+    keep_image(&there, pair);
+    return convert_to(pair, s, other, &there) && convert_to(pair, s, form, &here) &&
+           convert_to(pair, s, other, &there) && convert_to(pair, s, form, &here);
+}
+
+/* The record of the next save: a random one, or one whose timers can go back to form 1. */
+static void next_record(struct pair *pair, struct random *r, bool seventy)
+{
+    struct record_fields f;
+
+    random_record(r, pair->record, SECTORS);
+    if (!seventy)
+        return;
+    decode_record(&f, pair->record);
+    f.read_timer = 70;
+    f.write_timer = 70;
+    encode_record(pair->record, &f);
+}
+
+/* Saves until the image is full, with a power-on from each length; behind an entry of form 1, or from nothing. */
+static bool sweep_chain_of(struct pair *pair, struct statistics *s, uint32_t form, bool seventy)
 {
     struct random r = random_for(1, 3);
 
     pair_reset(pair, &r, SECTORS, AT_START);
-    random_record(&r, pair->record, SECTORS);
+    next_record(pair, &r, seventy);
+    if (form == SCT_FORM_1) {
+        random_entry(&r, pair->image, 1, SECTORS, form);
+        pair->used = SCT_ENTRY_BYTES;
+    }
     for (unsigned k = 0; k < SCT_ENTRIES_LIMIT + 2; k++) {
         struct step step = plain_step(pair, SAMPLE);
 
@@ -298,12 +404,59 @@ bool sweep_chain(struct pair *pair, struct statistics *s)
         step.length[IMAGE] = IMAGE_ROOM;
         if (!sweep_step(pair, s, &step) || !sweep_as(pair, s, &step, SAVE))
             return false;
-        step = plain_step(pair, POWER_ON);
-        if (!sweep_step(pair, s, &step))
+        if (!there_and_back(pair, s, form))
             return false;
         if ((k % 13 == 0 || k >= SCT_ENTRIES_LIMIT - 2) && !try_used_lengths(pair, s))
             return false;
-        random_record(&r, pair->record, SECTORS);
+        next_record(pair, &r, seventy);
+    }
+    return true;
+}
+
+bool sweep_chain(struct pair *pair, struct statistics *s)
+{
+    return sweep_chain_of(pair, s, SCT_FORM_1, false) && sweep_chain_of(pair, s, SCT_FORM_2, false) &&
+           sweep_chain_of(pair, s, SCT_FORM_2, true);
+}
+
+/* One entry, at this place, is of each form and has other timers. */
+static bool try_place(struct pair *pair, struct statistics *s, uint32_t place)
+{
+    static const struct { uint32_t form; uint16_t read_timer, write_timer; } others[] = {
+        { SCT_FORM_1, 0, 0 }, { SCT_FORM_2, 70, 70 }, { SCT_FORM_2, 71, 70 }, { SCT_FORM_2, 70, 0 },
+        { SCT_FORM_2, 9, 70 }, { SCT_FORM_2, 70, 1 }, { SCT_FORM_2, 10, 65535 }
+    };
+    uint8_t *entry = pair->image + SCT_ENTRY_BYTES * (place - 1);
+    uint8_t before[32];
+
+    memcpy(before, entry, sizeof before);
+    for (size_t i = 0; i < sizeof others / sizeof others[0]; i++) {
+        put_form(entry, others[i].form, others[i].read_timer, others[i].write_timer);
+        if (!read_image(pair, s)) {
+            printf("  with entry %u of form %u, timers %u and %u\n", place, others[i].form,
+                   others[i].read_timer, others[i].write_timer);
+            return false;
+        }
+    }
+    memcpy(entry, before, sizeof before);
+    return true;
+}
+
+/* Chains in which one entry is another than the rest, at each place. */
+bool sweep_forms(struct pair *pair, struct statistics *s)
+{
+    static const uint32_t lengths[] = { 1, 2, 3, 13, SCT_ENTRIES_LIMIT };
+    struct random r = random_for(1, 7);
+
+    for (size_t i = 0; i < sizeof lengths / sizeof lengths[0]; i++) {
+        for (uint32_t form = SCT_FORM_1; form <= SCT_FORM_2; form++) {
+            make_chain(pair, &r, lengths[i], form);
+            if (!there_and_back(pair, s, form))
+                return false;
+            for (uint32_t place = 1; place <= lengths[i]; place++)
+                if (!try_place(pair, s, place))
+                    return false;
+        }
     }
     return true;
 }
@@ -550,6 +703,7 @@ static bool try_lengths(struct pair *pair, struct statistics *s, const struct st
     static const uint32_t ports[] = { 0, 1, 2, 3, 4, 0x80000000 };
     static const uint64_t sizes[] = { 1, 0, SECTORS, SECTORS + 1, 0x100000001, UINT64_MAX };
     static const uint64_t lbas[] = { 0, VISIBLE - 1, VISIBLE, SECTORS, 0x100000000, UINT64_MAX };
+    static const uint32_t forms[] = { 1, 2, 0, 3, 0x101, 0x80000002 };
 
     for (unsigned number = 0; number < mixtures(entry); number++) {
         for (unsigned i = 0; i < 6 * 3; i++) {
@@ -562,6 +716,7 @@ static bool try_lengths(struct pair *pair, struct statistics *s, const struct st
             step.port = ports[i / 3];
             step.visible = sizes[i / 3];
             step.lba = lbas[i / 3];
+            step.form = forms[i / 3];
             if (!sweep_step(pair, s, &step))
                 return false;
         }
@@ -577,7 +732,7 @@ bool sweep_lengths(struct pair *pair, struct statistics *s)
     for (enum placement p = 0; p < PLACEMENTS; p++) {
         pair_reset(pair, &r, SECTORS, p);
         base_record(&r, pair->record, FILLING);
-        random_entry(&r, pair->image, 1, SECTORS);
+        random_entry(&r, pair->image, 1, SECTORS, p == LOOSE ? SCT_FORM_1 : SCT_FORM_2);
         pair->used = SCT_ENTRY_BYTES;
         keep_start(&start, pair);
         for (enum entry e = 0; e < ENTRIES; e++)

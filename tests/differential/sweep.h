@@ -1,8 +1,9 @@
 /*
  * sweep.h - what is tried in full rather than at random: every byte of a
- * record, every byte of an image, every length of a chain, every bit of an
- * address on the largest disk, every bit of a sector flipped, every mixture of
- * wrong lengths. Each function prints the first difference and returns false.
+ * record, every byte of an image, every length of a chain, every place in it for
+ * an entry of another form, every bit of an address on the largest disk, every
+ * bit of a sector flipped, every mixture of wrong lengths. Each function prints
+ * the first difference and returns false.
  */
 #ifndef SWEEP_H
 #define SWEEP_H
@@ -14,6 +15,7 @@
 bool sweep_records(struct pair *pair, struct statistics *s, bool thorough);
 bool sweep_images(struct pair *pair, struct statistics *s, bool thorough);
 bool sweep_chain(struct pair *pair, struct statistics *s);
+bool sweep_forms(struct pair *pair, struct statistics *s);
 bool sweep_addresses(struct pair *pair, struct statistics *s);
 bool sweep_flips(struct pair *pair, struct statistics *s);
 bool sweep_lengths(struct pair *pair, struct statistics *s);

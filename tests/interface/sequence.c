@@ -4,7 +4,8 @@
  * The owner makes the check bytes of a disk, and hides its end. A setup tool
  * switches a recovery timer off. One core starts a fill, the handler advances it
  * in pieces, and another core polls it. The device is saved and started again
- * from what was saved. A bit of a sector flips, and is repaired. A test bench
+ * from what was saved, with its timers. The image is converted for an older
+ * handler, and back. A bit of a sector flips, and is repaired. A test bench
  * damages a sector by Long Sector Access, and looks at it. Whatever is printed
  * has been compared; the first difference ends the program with 1.
  * docs/interface.md describes the same in words.
@@ -102,6 +103,18 @@ static uint32_t work(uint32_t n)
 
     EXPECT(sct_work_answer(result) == SCT_DONE);
     return sct_work_sectors(result);
+}
+
+/* The used length is the handler's. */
+static void save(void)
+{
+    EXPECT(sct_save(device, sizeof device, image, sizeof image, used) == SCT_DONE);
+    used += SCT_ENTRY_BYTES;
+}
+
+static uint32_t convert(uint32_t form)
+{
+    return sct_convert(image, sizeof image, used, form);
 }
 
 /* ---- What the cores ask, and what they expect ---------------------------- */
@@ -307,12 +320,20 @@ static void advance_fill(void)
     poll(1, (struct status){ 1, 0, 0x0000, 2, 1, 0, 0x80, 0x80, 0x80 });
 }
 
+/* The first entry's form byte and timers. */
+static int entry_is(uint8_t form, uint8_t read_timer, uint8_t write_timer)
+{
+    return image[25] == form && image[26] == read_timer && image[27] == 0 &&
+           image[28] == write_timer && image[29] == 0;
+}
+
+/* An empty image starts with an entry of form 2, which has the timers. */
 static void sample_and_save(void)
 {
     EXPECT(sct_sample(device, sizeof device, 0x23) == SCT_DONE);
-    EXPECT(sct_save(device, sizeof device, image, sizeof image, used) == SCT_DONE);
-    used += SCT_ENTRY_BYTES;
+    save();
     EXPECT(image[0] == NATIVE && image[8] == VISIBLE && image[17] == 0x23);
+    EXPECT(entry_is(2, 70, 0));
     EXPECT(memcmp(image + used - 4, "SCTE", 4) == 0);
     for (uint64_t i = used; i < sizeof image; i++)
         EXPECT(image[i] == 0);
@@ -329,8 +350,40 @@ static void start_again(void)
     poll(1, (struct status){ 1, 0, 0x0000, 0, 0, 0, 0x80, 0x80, 0x23 });
     ask_timer(3, 2, 2, 0);
     handle(3);
+    EXPECT(replied_key(3, 0, 0));
+    printf("port 3: write timer 0, as saved\n");
+}
+
+/*
+ * An older handler knows form 1 alone, which has no timers and means 70 and 70.
+ * An image goes there only if every entry has these.
+ */
+static void convert_for_older_handler(void)
+{
+    uint8_t before[sizeof image];
+
+    EXPECT(convert(SCT_FORM_1) == SCT_OTHER_TIMERS);
+    ask_timer(3, 1, 2, 70);
+    handle(3);
+    EXPECT(replied_key(3, 0, 0));
+    save();
+    EXPECT(convert(SCT_FORM_1) == SCT_OTHER_TIMERS);
+    EXPECT(entry_is(2, 70, 0));
+    printf("convert to form 1: %d; after a save with the write timer 0046h: %d\n", SCT_OTHER_TIMERS, SCT_OTHER_TIMERS);
+
+    used = 0;       /* a new image */
+    save();
+    EXPECT(entry_is(2, 70, 70));
+    memcpy(before, image, sizeof image);
+    EXPECT(convert(SCT_FORM_1) == SCT_DONE);
+    EXPECT(entry_is(0, 0, 0));
+    EXPECT(power_on() == SCT_DONE);
+    ask_timer(3, 2, 2, 0);
+    handle(3);
     EXPECT(replied_key(3, 0x0046, 0));
-    printf("port 3: write timer 0046h again\n");
+    EXPECT(convert(SCT_FORM_2) == SCT_DONE);
+    EXPECT(memcmp(before, image, sizeof image) == 0);
+    printf("a new image, to form 1 and back: the same bytes\n");
 }
 
 /* A refused request has Status 51h. A refused step has a nonzero answer, and changes nothing. */
@@ -433,6 +486,7 @@ int main(void)
     advance_fill();
     sample_and_save();
     start_again();
+    convert_for_older_handler();
     refuse();
     flip();
     damage();

@@ -11,6 +11,8 @@
 #include "bytes.h"
 #include "check.h"
 #include "implementation.h"
+#include "layout.h"
+#include "random.h"
 #include "request.h"
 
 enum { SECTORS = 64 };
@@ -74,6 +76,11 @@ static void sample(uint8_t reading)
 static void set_visible(uint64_t visible)
 {
     expect("set V", code->set_visible(device, sizeof device, visible), SCT_DONE);
+}
+
+static void save(uint64_t used)
+{
+    expect("save", code->save(device, sizeof device, image, sizeof image, used), SCT_DONE);
 }
 
 static uint32_t repair(uint64_t lba)
@@ -317,8 +324,8 @@ static void flag_and_image(void)
     expect_key("interval 2, kept", 0);
     sample(20);
     sample(21);
-    expect("save", code->save(device, sizeof device, image, sizeof image, 0), SCT_DONE);
-    expect("second save", code->save(device, sizeof device, image, sizeof image, 560), SCT_DONE);
+    save(0);
+    save(560);
     expect("place of the first trailer", get_bytes(image + 560 + 548, 4), 544);
     power_on(1120);
     expect("flag believed as saved", status()[6], 1);
@@ -1009,22 +1016,25 @@ static void timers_at_power_on(const char *what, uint64_t used)
     expect_timer(what, FOR_WRITES, 0x0046);
 }
 
-/* From an empty image and from saved ones, whatever the timers were. */
+static const uint16_t timer_values[] = { 0, 10, 69, 70, 71, 0x4600, 65535 };
+
+enum { TIMER_VALUES = sizeof timer_values / sizeof timer_values[0] };
+
+/* From an empty image, and from one whose entries have no timers, whatever the timers were. */
 static void timers_on(void)
 {
-    static const uint16_t values[] = { 0, 10, 69, 70, 71, 0x4600, 65535 };
-
-    for (size_t i = 0; i < sizeof values / sizeof values[0]; i++) {
+    for (unsigned i = 0; i < TIMER_VALUES; i++) {
         timers_at_power_on("timer of a new disk", 0);
-        set_timer(FOR_READS, values[i]);
-        expect_timer("read timer as set", FOR_READS, values[i]);
+        set_timer(FOR_READS, timer_values[i]);
+        expect_timer("read timer as set", FOR_READS, timer_values[i]);
         expect_timer("write timer as at power-on", FOR_WRITES, 0x0046);
-        set_timer(FOR_WRITES, values[i]);
-        expect_timer("write timer as set", FOR_WRITES, values[i]);
-        expect("save", code->save(device, sizeof device, image, sizeof image, 0), SCT_DONE);
-        expect("second save", code->save(device, sizeof device, image, sizeof image, 560), SCT_DONE);
-        timers_at_power_on("timer after power-on from an entry", 560);
-        timers_at_power_on("timer after power-on from two entries", 1120);
+        set_timer(FOR_WRITES, timer_values[i]);
+        expect_timer("write timer as set", FOR_WRITES, timer_values[i]);
+        save(0);
+        put_form(image, SCT_FORM_1, 0, 0);
+        save(560);
+        timers_at_power_on("timer after power-on from an entry of form 1", 560);
+        timers_at_power_on("timer after power-on from two entries of form 1", 1120);
     }
 }
 
@@ -1055,6 +1065,258 @@ static void timer_records(void)
             put16(device + at, records[i].timer);
             expect("record with a timer", code->sample(device, sizeof device, 20), records[i].answer);
         }
+}
+
+/* ---- W-204: settings that remember the timers -------------------------------------- */
+
+static uint8_t *entry_at(unsigned number)
+{
+    return image + SCT_ENTRY_BYTES * (number - 1);
+}
+
+/* "byte 25 is 2 and bytes 26 to 29 hold the read and write timers": these seven bytes from 25 on. */
+static void expect_form(const char *what, unsigned number, uint8_t form, uint16_t read_timer, uint16_t write_timer)
+{
+    const uint8_t wanted[7] = {
+        form, (uint8_t)read_timer, (uint8_t)(read_timer >> 8), (uint8_t)write_timer, (uint8_t)(write_timer >> 8), 0, 0
+    };
+
+    expect(what, memcmp(entry_at(number) + 25, wanted, sizeof wanted) != 0, 0);
+}
+
+/*
+ * "a save keeps the form of the chain it extends (form 1 leaves the timers out),
+ * and an empty image starts with form 2."
+ */
+static void saved_forms(void)
+{
+    power_on(0);
+    memset(image, 0xEE, sizeof image);
+    save(0);
+    expect_form("first entry", 1, 2, 70, 70);
+    set_timer(FOR_READS, 10);
+    set_timer(FOR_WRITES, 0xABCD);
+    save(0);
+    expect_form("first entry, timers set", 1, 2, 10, 0xABCD);
+    set_timer(FOR_WRITES, 0);
+    save(560);
+    expect_form("second entry, a timer off", 2, 2, 10, 0);
+    expect_form("first entry, as it was", 1, 2, 10, 0xABCD);
+    put_form(entry_at(1), SCT_FORM_1, 0, 0);
+    save(560);
+    expect_form("second entry behind form 1", 2, 0, 0, 0);
+    save(1120);
+    expect_form("third entry", 3, 0, 0, 0);
+    expect_timer("the device's own timer stays", FOR_READS, 10);
+}
+
+/* "which power-on then restores": those of the newest entry. "Form 1 has byte 25 = 0 and means 70 and 70." */
+static void restored_timers(void)
+{
+    for (unsigned i = 0; i < TIMER_VALUES; i++) {
+        uint16_t one = timer_values[i], other = timer_values[(i + 1) % TIMER_VALUES];
+
+        power_on(0);
+        set_timer(FOR_READS, one);
+        set_timer(FOR_WRITES, other);
+        save(0);
+        set_timer(FOR_READS, other);
+        set_timer(FOR_WRITES, one);
+        save(560);
+        power_on(560);
+        expect_timer("read timer from an entry", FOR_READS, one);
+        expect_timer("write timer from an entry", FOR_WRITES, other);
+        power_on(1120);
+        expect_timer("read timer from the newer entry", FOR_READS, other);
+        expect_timer("write timer from the newer entry", FOR_WRITES, one);
+        power_on(0);
+        expect_timer("read timer of a new disk", FOR_READS, 70);
+        expect_timer("write timer of a new disk", FOR_WRITES, 70);
+    }
+}
+
+static uint32_t convert(uint64_t used, uint32_t form)
+{
+    return code->convert(image, sizeof image, used, form);
+}
+
+enum { TWO_ENTRIES = 2 * SCT_ENTRY_BYTES };
+
+/* Two entries of this form with the timers 70 and 70, and junk behind them. */
+static void make_image(uint32_t form)
+{
+    power_on(0);
+    memset(image, 0xEE, sizeof image);
+    sample(33);
+    save(0);
+    put_form(entry_at(1), form, 70, 70);
+    sample(44);
+    save(560);
+}
+
+/* The two entries as they are: what power-on, save and convert to form 2 answer, and convert to form 1. */
+static void expect_answers(const char *what, uint32_t wanted, uint32_t back)
+{
+    uint8_t before[sizeof image];
+
+    memcpy(before, image, sizeof image);
+    expect(what, code->power_on(device, sizeof device, area, sizeof area, disk, sizeof disk,
+                                check_area, sizeof check_area, image, sizeof image, TWO_ENTRIES), wanted);
+    expect(what, code->save(device, sizeof device, image, sizeof image, TWO_ENTRIES), wanted);
+    memcpy(image, before, sizeof image);
+    expect(what, convert(TWO_ENTRIES, SCT_FORM_2), wanted);
+    memcpy(image, before, sizeof image);
+    expect(what, convert(TWO_ENTRIES, SCT_FORM_1), back);
+    if (back != SCT_DONE)
+        expect("a refused convert changes nothing", memcmp(image, before, sizeof image) != 0, 0);
+    memcpy(image, before, sizeof image);
+}
+
+/* "A saved timer of 1 to 9 is out of range"; "going back from timers other than 70 and 70 is answer 9", in any entry. */
+static void saved_timers(void)
+{
+    static const struct { uint16_t timer; uint32_t answer, back; } timers[] = {
+        { 0, SCT_DONE, SCT_OTHER_TIMERS }, { 1, SCT_BAD_IMAGE, SCT_BAD_IMAGE }, { 9, SCT_BAD_IMAGE, SCT_BAD_IMAGE },
+        { 10, SCT_DONE, SCT_OTHER_TIMERS }, { 69, SCT_DONE, SCT_OTHER_TIMERS }, { 70, SCT_DONE, SCT_DONE },
+        { 71, SCT_DONE, SCT_OTHER_TIMERS }, { 0x4600, SCT_DONE, SCT_OTHER_TIMERS },
+        { 65535, SCT_DONE, SCT_OTHER_TIMERS }
+    };
+
+    for (unsigned number = 1; number <= 2; number++) {
+        for (size_t i = 0; i < sizeof timers / sizeof timers[0]; i++) {
+            make_image(SCT_FORM_2);
+            put_form(entry_at(number), SCT_FORM_2, timers[i].timer, 70);
+            expect_answers("an entry's read timer", timers[i].answer, timers[i].back);
+            put_form(entry_at(number), SCT_FORM_2, 70, timers[i].timer);
+            expect_answers("an entry's write timer", timers[i].answer, timers[i].back);
+        }
+    }
+}
+
+/* Bytes 25 to 31: a form byte other than 0 and 2, and "zeros zero", is answer 6 in every entry. */
+static void form_bytes(void)
+{
+    static const uint8_t wrong_forms[] = { 1, 3, 4, 0x82, 255 };
+
+    for (unsigned number = 1; number <= 2; number++) {
+        for (uint32_t form = SCT_FORM_1; form <= SCT_FORM_2; form++) {
+            make_image(form);
+            expect_answers("as it was made", SCT_DONE, SCT_DONE);
+            for (size_t i = 0; i < sizeof wrong_forms; i++) {
+                entry_at(number)[25] = wrong_forms[i];
+                expect_answers("byte 25 is of no form", SCT_BAD_IMAGE, SCT_BAD_IMAGE);
+            }
+            for (unsigned at = form == SCT_FORM_1 ? 26 : 30; at < 32; at++) {
+                make_image(form);
+                entry_at(number)[at] = 70;
+                expect_answers("a byte that must be zero", SCT_BAD_IMAGE, SCT_BAD_IMAGE);
+            }
+        }
+    }
+}
+
+/* "A chain may not mix forms", whatever the timers are. */
+static void mixed_chains(void)
+{
+    for (unsigned number = 1; number <= 2; number++) {
+        make_image(SCT_FORM_1);
+        put_form(entry_at(number), SCT_FORM_2, 70, 70);
+        expect_answers("one entry of form 2", SCT_BAD_IMAGE, SCT_BAD_IMAGE);
+        put_form(entry_at(number), SCT_FORM_2, 0, 10);
+        expect_answers("one entry of form 2, other timers", SCT_BAD_IMAGE, SCT_BAD_IMAGE);
+        make_image(SCT_FORM_2);
+        put_form(entry_at(number), SCT_FORM_1, 0, 0);
+        expect_answers("one entry of form 1", SCT_BAD_IMAGE, SCT_BAD_IMAGE);
+    }
+}
+
+/* "going there and back gives the same bytes. An image already of the form asked for stays." */
+static void there_and_back(void)
+{
+    uint8_t first[sizeof image], second[sizeof image];
+
+    make_image(SCT_FORM_1);
+    memcpy(first, image, sizeof image);
+    expect("to form 1, already so", convert(TWO_ENTRIES, SCT_FORM_1), SCT_DONE);
+    expect("it stays", memcmp(image, first, sizeof image) != 0, 0);
+    expect("to form 2", convert(TWO_ENTRIES, SCT_FORM_2), SCT_DONE);
+    memcpy(second, first, sizeof image);
+    for (unsigned number = 1; number <= 2; number++) {
+        expect_form("each entry", number, 2, 70, 70);
+        put_form(second + SCT_ENTRY_BYTES * (number - 1), SCT_FORM_2, 70, 70);
+    }
+    expect("and no other byte", memcmp(image, second, sizeof image) != 0, 0);
+    expect("to form 2, already so", convert(TWO_ENTRIES, SCT_FORM_2), SCT_DONE);
+    expect("it stays", memcmp(image, second, sizeof image) != 0, 0);
+    expect("back", convert(TWO_ENTRIES, SCT_FORM_1), SCT_DONE);
+    expect("the same bytes", memcmp(image, first, sizeof image) != 0, 0);
+    expect("and there again", convert(TWO_ENTRIES, SCT_FORM_2), SCT_DONE);
+    expect("the same bytes", memcmp(image, second, sizeof image) != 0, 0);
+    put_form(entry_at(1), SCT_FORM_2, 0, 65535);
+    memcpy(second, image, sizeof image);
+    expect("other timers, already form 2", convert(TWO_ENTRIES, SCT_FORM_2), SCT_DONE);
+    expect("they stay", memcmp(image, second, sizeof image) != 0, 0);
+    power_on(TWO_ENTRIES);
+    expect("life maximum", status()[204], 44);
+}
+
+/* Of several answers the first of 2, 5, 6, 9: each is put right in turn. */
+static void convert_order(void)
+{
+    static const uint32_t wrong_forms[] = { 0, 3, 0x101, 0x102, 0x10002, 0x80000001, 0xFFFFFFFF };
+
+    make_image(SCT_FORM_2);
+    put_form(entry_at(1), SCT_FORM_2, 71, 70);
+    entry_at(2)[30] = 1;
+    for (size_t i = 0; i < sizeof wrong_forms / sizeof wrong_forms[0]; i++) {
+        expect("used exceeds the image", convert(sizeof image + 1, wrong_forms[i]), SCT_BAD_LENGTH);
+        expect("used is 2^64 - 1", convert(UINT64_MAX, wrong_forms[i]), SCT_BAD_LENGTH);
+        expect("form", convert(TWO_ENTRIES, wrong_forms[i]), SCT_BAD_VALUE);
+        expect("form, used is no multiple", convert(TWO_ENTRIES + 1, wrong_forms[i]), SCT_BAD_VALUE);
+    }
+    expect("image", convert(TWO_ENTRIES, SCT_FORM_1), SCT_BAD_IMAGE);
+    entry_at(2)[30] = 0;
+    expect("timers", convert(TWO_ENTRIES, SCT_FORM_1), SCT_OTHER_TIMERS);
+    expect("used is no multiple", convert(TWO_ENTRIES + 1, SCT_FORM_1), SCT_BAD_IMAGE);
+    put_form(entry_at(1), SCT_FORM_2, 70, 70);
+    expect("a buffer without room", code->convert(image, TWO_ENTRIES, TWO_ENTRIES, SCT_FORM_1), SCT_DONE);
+    expect_form("first entry", 1, 0, 0, 0);
+    expect_form("second entry", 2, 0, 0, 0);
+}
+
+/* An empty image has no form; it "starts with form 2" whichever was asked for. */
+static void convert_nothing(void)
+{
+    uint8_t before[sizeof image];
+
+    power_on(0);
+    for (uint32_t form = SCT_FORM_1; form <= SCT_FORM_2; form++) {
+        memset(image, 0xEE, sizeof image);
+        memcpy(before, image, sizeof image);
+        expect("an empty image", convert(0, form), SCT_DONE);
+        expect("it stays", memcmp(image, before, sizeof image) != 0, 0);
+        expect("no image", code->convert(NULL, 0, 0, form), SCT_DONE);
+        save(0);
+        expect_form("its first entry", 1, 2, 70, 70);
+    }
+    expect("no such form", convert(0, 3), SCT_BAD_VALUE);
+    expect("no such form, no image", code->convert(NULL, 0, 0, 0), SCT_BAD_VALUE);
+}
+
+/* Entries as they were before W-204 are readable, and mean 70 and 70. In a record V is at 8, the timers at 26 and 28. */
+static void old_images(void)
+{
+    struct random r = random_for(204, 1);
+
+    for (unsigned i = 0; i < 200; i++) {
+        for (uint32_t k = 1; k <= 2; k++)
+            random_entry(&r, image, k, SECTORS, SCT_FORM_1);
+        expect_answers("an old image", SCT_DONE, SCT_DONE);
+        power_on(TWO_ENTRIES);
+        expect("its V", get64(device + 8), get64(entry_at(2) + 8));
+        expect("its read timer", get16(device + 26), 70);
+        expect("its write timer", get16(device + 28), 70);
+    }
 }
 
 static void run(const struct implementation *implementation)
@@ -1094,6 +1356,15 @@ static void run(const struct implementation *implementation)
     timers_on();
     timers_off();
     timer_records();
+    saved_forms();
+    restored_timers();
+    saved_timers();
+    form_bytes();
+    mixed_chains();
+    there_and_back();
+    convert_order();
+    convert_nothing();
+    old_images();
 }
 
 int main(void)

@@ -2,7 +2,7 @@
  * reference.c - a plain reading of the scope paper, to test the archive
  * against, and to be read along with the paper.
  *
- * It has the archive's eleven entries (prefix ref_) over the archive's buffers,
+ * It has the archive's twelve entries (prefix ref_) over the archive's buffers,
  * and gives the same bytes. Each section quotes the sentences it follows; one
  * of a change request has the request's number before it. The offsets in the
  * record are those of docs/record-layout.md.
@@ -74,9 +74,30 @@
  *  46   bytes of the request stay behind the check bytes that Read Long sends
  *  47   Write Long clears bits 13 to 15 of the check that it is sent
  *  48   the second sector of a request stays in a reply of one sector
- *  49   both timers are 0 at power-on (the rule before W-203)
+ *  49   both timers of a new disk are 0 at power-on (the rule before W-203)
  *  50   a power-on from a saved entry leaves the write timer at 0
  *  51   a timer set to 0 is 70
+ *  52   a save swaps the two timers
+ *  53   a saved timer of 9 is in range
+ *  54   an entry whose byte 25 is 3 is of form 2
+ *  55   a chain may mix forms
+ *  56   answer 9 is judged by the newest entry alone
+ *  57   answer 9 is judged by the read timers alone
+ *  58   an empty image starts with form 1
+ *  59   a save writes an entry of form 2 behind those of form 1
+ *  60   power-on restores the timers of the oldest entry
+ *  61   both timers are 70 at power-on, whatever was saved (the rule before W-204)
+ *  62   convert to form 2 makes the timers of form 1 0 and 0
+ *  63   convert judges the image before the form asked for
+ *  64   convert does not judge an image whose newest entry is of the form asked for
+ *  65   convert to form 2 makes the timers of form 2 70 and 70
+ *  66   convert leaves the newest entry as it was
+ *  67   convert to form 1 leaves the bytes of the timers
+ *  68   bytes 30 and 31 of an entry are not judged
+ *  69   bytes 26 to 29 of an entry of form 1 are not judged
+ *  70   convert judges the timers (9) before the image (6)
+ *  71   only 8 bits of the form asked for are compared
+ *  72   a timer of 0 is saved as 70
  */
 #ifdef PLANT
 #define PLANTED(n) (PLANT == (n))
@@ -1337,12 +1358,16 @@ static uint32_t repair_sector(struct device *d, uint8_t *sector, uint16_t differ
  * "Entries of 560 bytes: 544 of body, a 16-byte trailer at the end. Body: N at
  * 0 and V at 8 (8 bytes each), flag 16, life maximum 17, features 1 to 3 at
  * 18, 20, 22, kept marks in bits 0 to 2 of byte 24, zeros to 31, then the
- * temperature table."
+ * temperature table." W-204: "byte 25 is 2 and bytes 26 to 29 hold the read and
+ * write timers"; what is then left of the zeros is 30 and 31.
  */
 enum {
     BODY_NATIVE = 0, BODY_VISIBLE = 8, BODY_FLAG = 16, BODY_LIFE = 17, BODY_STATES = 18,
-    BODY_PERSISTENT = 24, BODY_ZEROS = 25, BODY_TABLE = 32, BODY_BYTES = 544
+    BODY_PERSISTENT = 24, BODY_FORM = 25, BODY_TIMERS = 26, BODY_ZEROS = 30, BODY_TABLE = 32, BODY_BYTES = 544
 };
+
+/* W-204, byte 25: "Form 1 has byte 25 = 0", form 2: "byte 25 is 2". */
+enum { FORM_1_BYTE = 0, FORM_2_BYTE = 2 };
 
 /*
  * "Trailer: 544, the place of the previous trailer (FFFFFFFFh for the first),
@@ -1367,6 +1392,48 @@ static void read_states(uint16_t state[FEATURES], const uint8_t *body)
         state[f] = load16(body + BODY_STATES + 2 * f);
 }
 
+/* SCT_FORM_1, SCT_FORM_2, or 0: no form has this byte 25. */
+static uint32_t form_of(const uint8_t *body)
+{
+    if (body[BODY_FORM] == FORM_1_BYTE)
+        return SCT_FORM_1;
+    return body[BODY_FORM] == FORM_2_BYTE || (PLANTED(54) && body[BODY_FORM] == 3) ? SCT_FORM_2 : 0;
+}
+
+/* W-204: "Form 1 [..] means 70 and 70." */
+static void read_timers(uint16_t timer[TIMERS], const uint8_t *body)
+{
+    for (int t = 0; t < TIMERS; t++)
+        timer[t] = form_of(body) == SCT_FORM_1 ? DEFAULT_TIMER : load16(body + BODY_TIMERS + 2 * t);
+}
+
+/* W-204: "form 1 leaves the timers out", whose bytes are zero then. */
+static void write_timers(uint8_t *body, uint32_t form, const uint16_t timer[TIMERS])
+{
+    body[BODY_FORM] = form == SCT_FORM_1 ? FORM_1_BYTE : FORM_2_BYTE;
+    for (int t = 0; t < TIMERS; t++)
+        store16(body + BODY_TIMERS + 2 * t, form == SCT_FORM_1 ? 0 : timer[t]);
+}
+
+/* W-204: "A saved timer of 1 to 9 is out of range." */
+static bool saved_timer_in_range(uint16_t timer)
+{
+    return timer_in_range(timer) || (PLANTED(53) && timer == 9);
+}
+
+/* Bytes 25 to 29: one of the two forms, and its timers or the zeros in their place. */
+static bool form_holds(const uint8_t *body)
+{
+    uint16_t timer[TIMERS];
+
+    read_timers(timer, body);
+    switch (form_of(body)) {
+    case SCT_FORM_1: return all_zero(body + BODY_TIMERS, BODY_ZEROS - BODY_TIMERS) || PLANTED(69);
+    case SCT_FORM_2: return saved_timer_in_range(timer[READ_TIMER]) && saved_timer_in_range(timer[WRITE_TIMER]);
+    default:         return false;
+    }
+}
+
 /* "values in range, zeros zero, table interval equal to feature 3" */
 static bool body_holds(const uint8_t *body)
 {
@@ -1377,7 +1444,8 @@ static bool body_holds(const uint8_t *body)
            body[BODY_FLAG] <= 1 &&
            states_in_range(state) &&
            body[BODY_PERSISTENT] < 1u << FEATURES &&
-           all_zero(body + BODY_ZEROS, BODY_TABLE - BODY_ZEROS) &&
+           form_holds(body) &&
+           (all_zero(body + BODY_ZEROS, BODY_TABLE - BODY_ZEROS) || PLANTED(68)) &&
            table_holds(body + BODY_TABLE) &&
            load16(body + BODY_TABLE + TABLE_INTERVAL) == state[LOG_INTERVAL];
 }
@@ -1406,6 +1474,9 @@ static bool chain_holds(const uint8_t *image, uint32_t entries)
             return false;
         /* "all entries have the same N" */
         if (load64(body + BODY_NATIVE) != load64(newest + BODY_NATIVE))
+            return false;
+        /* W-204: "A chain may not mix forms"; "a mixed chain is answer 6". */
+        if (form_of(body) != form_of(newest) && !PLANTED(55))
             return false;
         if (PLANTED(17))
             break;
@@ -1440,8 +1511,32 @@ static uint32_t judge_image(const uint8_t *image, uint64_t used, uint64_t native
     return SCT_DONE;
 }
 
-static void write_body(uint8_t *body, const struct device *d, const uint8_t *table)
+/*
+ * W-204: "a save keeps the form of the chain it extends (form 1 leaves the
+ * timers out), and an empty image starts with form 2."
+ */
+static uint32_t form_to_save(const uint8_t *newest)
 {
+    if (newest == NULL)
+        return PLANTED(58) ? SCT_FORM_1 : SCT_FORM_2;
+    return PLANTED(59) ? SCT_FORM_2 : form_of(newest);
+}
+
+/* The timers that a save writes. */
+static void timers_to_save(uint16_t timer[TIMERS], const struct device *d)
+{
+    for (int t = 0; t < TIMERS; t++) {
+        timer[t] = d->timer[PLANTED(52) ? TIMERS - 1 - t : t];
+        if (PLANTED(72) && timer[t] == 0)
+            timer[t] = DEFAULT_TIMER;
+    }
+}
+
+static void write_body(uint8_t *body, const struct device *d, const uint8_t *table, uint32_t form)
+{
+    uint16_t timer[TIMERS];
+
+    timers_to_save(timer, d);
     store64(body + BODY_NATIVE, d->native);
     store64(body + BODY_VISIBLE, d->visible);
     body[BODY_FLAG] = d->initialized;
@@ -1451,6 +1546,7 @@ static void write_body(uint8_t *body, const struct device *d, const uint8_t *tab
         store16(body + BODY_STATES + 2 * f, d->state[f]);
         body[BODY_PERSISTENT] |= (uint8_t)(d->persistent[f] << f);
     }
+    write_timers(body, form, timer);
     memset(body + BODY_ZEROS, 0, BODY_TABLE - BODY_ZEROS);
     memcpy(body + BODY_TABLE, table, SCT_SECTOR_BYTES);
 }
@@ -1465,6 +1561,46 @@ static void write_trailer(uint8_t *trailer, uint32_t number)
     store32(trailer + TRAILER_PREVIOUS, previous);
     store32(trailer + TRAILER_NUMBER, number);
     memcpy(trailer + TRAILER_LETTERS, "SCTE", 4);
+}
+
+/* ======================================================================== */
+/* The other form (W-204)                                                   */
+/* ======================================================================== */
+
+/*
+ * "going back from timers other than 70 and 70 is answer 9": those of any entry,
+ * for the whole image goes back.
+ */
+static bool timers_allow_form_1(const uint8_t *image, uint64_t used)
+{
+    uint16_t timer[TIMERS];
+
+    for (uint64_t left = used / SCT_ENTRY_BYTES; left >= 1; left--) {
+        read_timers(timer, image + SCT_ENTRY_BYTES * (left - 1));
+        if (timer[READ_TIMER] != DEFAULT_TIMER || (timer[WRITE_TIMER] != DEFAULT_TIMER && !PLANTED(57)))
+            return false;
+        if (PLANTED(56))
+            break;
+    }
+    return true;
+}
+
+/* "An image already of the form asked for stays": its timers are written as they were. */
+static void convert_body(uint8_t *body, uint32_t form)
+{
+    bool had_timers = form_of(body) == SCT_FORM_2;
+    uint16_t timer[TIMERS];
+
+    if (PLANTED(67) && form == SCT_FORM_1) {
+        body[BODY_FORM] = FORM_1_BYTE;
+        return;
+    }
+    read_timers(timer, body);
+    if (PLANTED(62) && !had_timers)
+        timer[READ_TIMER] = timer[WRITE_TIMER] = 0;
+    if (PLANTED(65) && had_timers)
+        timer[READ_TIMER] = timer[WRITE_TIMER] = DEFAULT_TIMER;
+    write_timers(body, form, timer);
 }
 
 /* ======================================================================== */
@@ -1501,7 +1637,8 @@ static void restore_history(struct device *d, uint8_t *table, const uint8_t *sav
 /*
  * "otherwise the newest entry, with "now" and this cycle's maximum missing."
  * "Option 1 keeps a state over power; other states return to 1." "The flag is
- * believed as saved."
+ * believed as saved." W-204: "the read and write timers, which power-on then
+ * restores".
  */
 static void restore(struct device *d, uint8_t *table, const uint8_t *body)
 {
@@ -1516,6 +1653,8 @@ static void restore(struct device *d, uint8_t *table, const uint8_t *body)
         if (d->persistent[f])
             d->state[f] = state[f];
     }
+    if (!PLANTED(61))
+        read_timers(d->timer, body);
     if (PLANTED(50))
         d->timer[WRITE_TIMER] = 0;
     restore_history(d, table, body + BODY_TABLE);
@@ -1539,8 +1678,8 @@ static bool disk_lengths_right(const struct device *d, size_t disk_length, size_
 /* ======================================================================== */
 
 /*
- * "Order where several apply: 4, 2, 1, 5, 3, 6, 7, 8." "A nonzero answer
- * changes nothing anywhere; work then reports 0."
+ * "Order where several apply: 4, 2, 1, 5, 3, 6, 7, 8." W-204: "answer 9, after
+ * 6". "A nonzero answer changes nothing anywhere; work then reports 0."
  */
 
 /* The answers 1 and 3 of take, serve and give. */
@@ -1759,7 +1898,7 @@ uint32_t REF(save)(const uint8_t *device, size_t device_length,
     if (image_full(image_length, used))
         return SCT_IMAGE_FULL;
     entry = image + used;
-    write_body(entry, &d, device + AT_TABLE);
+    write_body(entry, &d, device + AT_TABLE, form_to_save(newest_entry(image, used)));
     write_trailer(entry + BODY_BYTES, (uint32_t)(used / SCT_ENTRY_BYTES) + 1);
     return SCT_DONE;
 }
@@ -1790,7 +1929,56 @@ uint32_t REF(power_on)(uint8_t *device, size_t device_length,
     start_afresh(&d, device + AT_TABLE, native);
     if (newest != NULL)
         restore(&d, device + AT_TABLE, newest);
+    if (PLANTED(60) && newest != NULL)
+        read_timers(d.timer, image);
     write_device(device, &d);
     memset(area, 0, PLANTED(20) ? SCT_MAILBOX_BYTES * SCT_PORTS : SCT_PRIVATE_BYTES);
+    return SCT_DONE;
+}
+
+/* W-204: "a form asked for other than 1 or 2 is answer 5". */
+static bool form_known(uint32_t form)
+{
+    if (PLANTED(71))
+        form &= 0xFF;
+    return form == SCT_FORM_1 || form == SCT_FORM_2;
+}
+
+/* What a planted fault of convert answers too early, or 0. */
+static uint32_t planted_answer(const uint8_t *image, uint64_t used, uint32_t form)
+{
+    if (PLANTED(63) && !image_readable(image, used))
+        return SCT_BAD_IMAGE;
+    if (PLANTED(70) && form == SCT_FORM_1 && !timers_allow_form_1(image, used))
+        return SCT_OTHER_TIMERS;
+    return SCT_DONE;
+}
+
+/* Whether convert leaves an image that it should judge. */
+static bool planted_trust(const uint8_t *image, uint64_t used, uint32_t form)
+{
+    return PLANTED(64) && used >= SCT_ENTRY_BYTES && form_of(newest_entry(image, used)) == form;
+}
+
+/* W-204: "Convert a whole image from form 1 to form 2 and back; going there and back gives the same bytes." */
+uint32_t REF(convert)(uint8_t *image, size_t image_length, uint64_t used, uint32_t form)
+{
+    uint32_t early;
+
+    if (used > image_length)
+        return SCT_BAD_LENGTH;
+    early = planted_answer(image, used, form);
+    if (early != SCT_DONE)
+        return early;
+    if (!form_known(form))
+        return SCT_BAD_VALUE;
+    if (planted_trust(image, used, form))
+        return SCT_DONE;
+    if (!image_readable(image, used))
+        return SCT_BAD_IMAGE;
+    if (form == SCT_FORM_1 && !timers_allow_form_1(image, used))
+        return SCT_OTHER_TIMERS;
+    for (uint64_t at = 0; at + (PLANTED(66) ? SCT_ENTRY_BYTES : 0) < used; at += SCT_ENTRY_BYTES)
+        convert_body(image + at, form);
     return SCT_DONE;
 }

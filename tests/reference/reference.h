@@ -1,7 +1,7 @@
 /*
  * reference.h - the reference implementation's entries.
  *
- * The same eleven entries as in sct_disk.h, with the prefix ref_ instead of sct_.
+ * The same twelve entries as in sct_disk.h, with the prefix ref_ instead of sct_.
  * REF_PREFIX names another prefix, so that the file can be built a second time
  * in the place of the archive (that is how the tests are tested).
  */
@@ -46,5 +46,6 @@ uint64_t REF(repair)(uint8_t *device, size_t device_length,
                      const uint8_t *check_area, size_t check_area_length, uint64_t lba);
 uint32_t REF(save)(const uint8_t *device, size_t device_length,
                    uint8_t *image, size_t image_length, uint64_t used);
+uint32_t REF(convert)(uint8_t *image, size_t image_length, uint64_t used, uint32_t form);
 
 #endif /* REFERENCE_H */

@@ -31,10 +31,10 @@
 
 enum { LIMIT = 1024, STACK_BYTES = 32768, SECTORS = 64, DAMAGED = 20, RANDOM_TRIALS = 20000 };
 
-enum entry { POWER_ON, TAKE, SERVE, GIVE, WORK, LOCK, UNLOCK, SET_VISIBLE, SAMPLE, REPAIR, SAVE, ENTRIES };
+enum entry { POWER_ON, TAKE, SERVE, GIVE, WORK, LOCK, UNLOCK, SET_VISIBLE, SAMPLE, REPAIR, SAVE, CONVERT, ENTRIES };
 
 static const char *const entry_name[ENTRIES] = {
-    "power_on", "take", "serve", "give", "work", "lock", "unlock", "set_visible", "sample", "repair", "save"
+    "power_on", "take", "serve", "give", "work", "lock", "unlock", "set_visible", "sample", "repair", "save", "convert"
 };
 
 /* ---- The buffers, and one call ------------------------------------------------ */
@@ -54,6 +54,7 @@ struct call {
     uint64_t   visible;
     uint8_t    reading;
     uint64_t   lba;
+    uint32_t   form;
     uint32_t   answer;
 };
 
@@ -97,8 +98,11 @@ static void make_call(void *argument)
         c->answer = sct_repair_answer(code->repair(device, sizeof device, disk, sizeof disk,
                                                    check_area, sizeof check_area, c->lba));
         break;
-    default:
+    case SAVE:
         c->answer = code->save(device, sizeof device, image, sizeof image, used);
+        break;
+    default:
+        c->answer = code->convert(image, sizeof image, used, c->form);
         break;
     }
 }
@@ -171,9 +175,15 @@ static uint32_t no_save(const uint8_t *a, size_t b, uint8_t *c, size_t d, uint64
     return 0;
 }
 
+static uint32_t no_convert(uint8_t *a, size_t b, uint64_t c, uint32_t d)
+{
+    UNUSED(a); UNUSED(b); UNUSED(c); UNUSED(d);
+    return 0;
+}
+
 static const struct implementation nothing = {
     "nothing", no_power_on, no_take, no_serve, no_give, no_work,
-    no_lock, no_lock, no_set_visible, no_sample, no_repair, no_save
+    no_lock, no_lock, no_set_visible, no_sample, no_repair, no_save, no_convert
 };
 
 /* ---- Measuring -------------------------------------------------------------------- */
@@ -208,7 +218,7 @@ static size_t depth_with(struct call *call, uint8_t paint)
 /* The buffers of a call, to make it again from the same state. */
 static struct {
     uint8_t device[SCT_RECORD_BYTES], area[SCT_PRIVATE_BYTES], mail[SCT_MAILBOX_BYTES];
-    uint8_t disk[sizeof disk], check_area[sizeof check_area];
+    uint8_t disk[sizeof disk], check_area[sizeof check_area], image[sizeof image];
 } kept;
 
 static void keep_state(void)
@@ -218,6 +228,7 @@ static void keep_state(void)
     memcpy(kept.mail, mail, sizeof mail);
     memcpy(kept.disk, disk, sizeof disk);
     memcpy(kept.check_area, check_area, sizeof check_area);
+    memcpy(kept.image, image, (size_t)used);
 }
 
 static void restore_state(void)
@@ -227,6 +238,7 @@ static void restore_state(void)
     memcpy(mail, kept.mail, sizeof mail);
     memcpy(disk, kept.disk, sizeof disk);
     memcpy(check_area, kept.check_area, sizeof check_area);
+    memcpy(image, kept.image, (size_t)used);
 }
 
 static size_t depth_of(struct call *call)
@@ -258,7 +270,7 @@ static uint32_t measure(struct call *call)
 
 static struct call call_of(enum entry entry)
 {
-    struct call c = { &archive, entry, 0, 3, SECTORS / 2, 30, DAMAGED, 0 };
+    struct call c = { &archive, entry, 0, 3, SECTORS / 2, 30, DAMAGED, SCT_FORM_1, 0 };
 
     return c;
 }
@@ -368,6 +380,17 @@ static void repairs(void)
     measure(&c);
 }
 
+/* To form 1 and to form 2, which the image has afterwards; each form twice. */
+static void converts(void)
+{
+    struct call c = call_of(CONVERT);
+
+    for (c.form = SCT_FORM_1; c.form <= SCT_FORM_2; c.form++) {
+        measure(&c);
+        measure(&c);
+    }
+}
+
 /* An image grows to 117 entries, with a power-on from each length. */
 static void chains(void)
 {
@@ -375,11 +398,16 @@ static void chains(void)
         measure_entry(POWER_ON);
         measure_entry(SAMPLE);
         measure_entry(SAVE);    /* the last is refused: full */
+        converts();
     }
     used = SCT_IMAGE_LIMIT;
+    put16(image + 26, 71);      /* the oldest entry's timers keep the image from going back */
+    converts();
+    put16(image + 26, 70);
     image[0] ^= 1;              /* the oldest entry does not hold */
     measure_entry(POWER_ON);
     measure_entry(SAVE);
+    converts();
     image[0] ^= 1;
     used = 0;
 }

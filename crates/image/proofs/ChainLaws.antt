@@ -8,7 +8,8 @@ use lib.Dec.{eqb}
 use borrow.Author.Tests.{eq-eqb, ne-eqb, le-leb, lt-leb}
 use Rattle.wire.specs.Numbers.{get}
 use Rattle.model.specs.Sizes.{trailerSize, entrySize, entryLimit}
-use Rattle.model.specs.Image.{Saved, savedAt, trailerPlace, noTrailer, previousPlace, linkPlace, entryHolds, entries, newestIn, readable, chainHolds}
+use Rattle.model.specs.Image.{formOf, Saved, savedAt, trailerPlace, noTrailer, previousPlace, linkPlace, entryHolds, entries, newestIn, readable, chainHolds, chainForm}
+use Rattle.image.specs.EntryTests.{NewestIs}
 use Rattle.model.proofs.ImageLaws.{chain-every, newest-at}
 
 module _ (newest : Saved) (image : List ℕ) where
@@ -52,16 +53,24 @@ module _ (image : List ℕ) (used : ℕ) where
   unfolding readable
   readable-empty e = ap (λ (n : ℕ). readable image n) (sym e)
 
-  -- the answer of a chain test that gets only the newest entry's N
+  -- the answer of a chain test that gets only the newest entry's N and form
   pub readable-chain : used % entrySize ≡ 0 → used ≤ entrySize * entryLimit → 1 ≤ used → (answer : Bool)
-      → ((newest : Saved) → newest .native ≡ savedAt image (used - entrySize) .native → answer ≡ chainHolds newest image (entries used) (used - trailerSize))
+      → (let s = savedAt image (used - entrySize) in (newest : Saved) → NewestIs newest (s .native) (formOf (s .timers)) → answer ≡ chainHolds newest image (entries used) (used - trailerSize))
       → answer ≡ readable image used
   unfolding readable
   readable-chain e h some answer holds =
       let n = entries used in
       let whole : used ≡ entrySize * n = omega arith in
       let last : previousPlace (suc n) ≡ used - trailerSize = rw (ne-eqb (suc n) 1 (λ x. omega arith)) (omega arith) in
-      holds (newestIn image used) (ap (λ (s : Saved). s .native) (newest-at image used e (omega arith)))
+      let same = newest-at image used e (omega arith) in
+      holds (newestIn image used) (ap (λ (s : Saved). s .native) same, ap (λ (s : Saved). formOf (s .timers)) same)
       ∙ ap (chainHolds (newestIn image used) image n) (sym last)
       ∙ chain-every (newestIn image used) image n (omega arith)
       ∙ sym (rw (eq-eqb (used % entrySize) 0 e, le-leb used (entrySize * entryLimit) h))
+
+  -- the form of the chain
+  pub form-empty : used ≡ 0 → 2 ≡ chainForm image used
+  form-empty e = rw (eq-eqb used 0 e)
+
+  pub form-newest : used % entrySize ≡ 0 → (used ≡ 0 → ⊥) → formOf (savedAt image (used - entrySize) .timers) ≡ chainForm image used
+  form-newest e some = sym (rw (ne-eqb used 0 some, newest-at image used e (omega arith)))

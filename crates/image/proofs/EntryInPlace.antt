@@ -1,6 +1,6 @@
 -- The tests of an entry in place are equivalent to the definition of an entry that holds.
 use mathlib.Core.Path.{_≡_, refl, sym, ap, ap₂, _∙_, subst}
-use mathlib.Core.Bool.{true, false, not, _&&_, _||_}
+use mathlib.Core.Bool.{Bool, true, false, not, _&&_, _||_}
 use Prim.Native.Nat.{ℕ, zero, suc, _+_, _-_, _*_, _≤_, _<_}
 use native.Mathlib.Omega.{arith}
 use native.Mathlib.Nat.{add-zero}
@@ -10,7 +10,7 @@ use lib.ListN.{length, getD, take, drop, length-take, List·getD-eq-default}
 use lib.Seq.{take-add, drop-drop}
 use lib.Dec.{eqb, leb}
 use borrow.Author.Tests.{eqb-true, eq-eqb, leb-true, le-leb}
-use Rattle.wire.specs.Choice.{bit}
+use Rattle.wire.specs.Choice.{if_then_else_, bit}
 use Rattle.wire.specs.Numbers.{get}
 use Rattle.wire.specs.Parts.{part}
 use Rattle.wire.specs.Layout.{form, Reads, outside}
@@ -22,15 +22,15 @@ use Rattle.wire.proofs.FormUnique.{form-unique}
 use Rattle.wire.proofs.BytesLaws.{bytes-part, all-zero-true, zero-all-true, same-refl, same-true}
 use Rattle.model.specs.Sizes.{sectorSize, historySize, bodySize, trailerSize, entrySize, entryLimit}
 use Rattle.model.specs.Temperature.{tableIntervalPlace, tableIndexPlace, tableHeadSize, tableBytes}
-use Rattle.model.specs.Image.{Saved, nativePlace, visiblePlace, flagPlace, lifePlace, cachePlace, reorderingPlace, intervalPlace, optionsPlace, zerosPlace, headSize, headFields, bodyBytes, hasBit, savedAt, inRange, bodyHolds, tag, trailerPlace, previousPlace, linkPlace, numberPlace, tagPlace, trailerFields, trailerBytes, alike, entryHolds}
+use Rattle.model.specs.Image.{leftOut, stored, Saved, nativePlace, visiblePlace, flagPlace, lifePlace, cachePlace, reorderingPlace, intervalPlace, optionsPlace, formPlace, readTimerPlace, writeTimerPlace, zerosPlace, headSize, timerFields, headFields, bodyBytes, hasBit, timersAt, savedAt, inRange, bodyHolds, tag, trailerPlace, previousPlace, linkPlace, numberPlace, tagPlace, trailerFields, trailerBytes, alike, entryHolds}
 use Rattle.model.proofs.FormatLaws.{table-at}
 use Rattle.model.specs.ImageForm.{SavedFits}
-use Rattle.model.proofs.EntryLaws.{saved-at, read-fits}
+use Rattle.model.proofs.EntryLaws.{TimersHeld, saved-at, read-fits}
 use Rattle.model.proofs.EntryFormat.{BodyAt, body-at, get-trailer, trailer-fields}
 use Rattle.store.specs.RecordTests.{tableFixed}
 use Rattle.store.proofs.TableInPlace.{implied, table-is, table-fixed}
 use Rattle.store.proofs.RecordTestLaws.{flag-exact}
-use Rattle.image.specs.EntryTests.{bodyInPlace, trailerInPlace}
+use Rattle.image.specs.EntryTests.{timersInPlace, bodyInPlace, trailerInPlace}
 
 -- ---- a body's head
 
@@ -60,9 +60,36 @@ module _ (image : List ℕ) (at : ℕ) (b : Bytes image) (fits : at + bodySize �
   front : (k i : ℕ) → i + k ≤ headSize → get k head i ≡ get k image (at + i)
   front k i h = get-part k image at headSize i h
 
-  head-read : leb (get 1 image (at + flagPlace)) 1 ≡ true → leb (get 1 image (at + optionsPlace)) 7 ≡ true → Reads (headFields (savedAt image at)) head
+  -- byte 25 and the timers are those of what is read from them
+  timers-read : timersInPlace image at ≡ true → Reads (timerFields (timersAt image at)) head
+  unfolding timersInPlace
+  timers-read h = go (eqb (get 1 image (at + formPlace)) 2) refl h
+    where
+      byte : get 1 head formPlace ≡ get 1 image (at + formPlace)
+      byte = front 1 formPlace (omega arith)
+
+      forRead : get 2 head readTimerPlace ≡ get 2 image (at + readTimerPlace)
+      forRead = front 2 readTimerPlace (omega arith)
+
+      forWrite : get 2 head writeTimerPlace ≡ get 2 image (at + writeTimerPlace)
+      forWrite = front 2 writeTimerPlace (omega arith)
+
+      none : Bool
+      none = eqb (get 1 image (at + formPlace)) 0 && eqb (get 2 image (at + readTimerPlace)) 0 && eqb (get 2 image (at + writeTimerPlace)) 0
+
+      go : (b : Bool) → eqb (get 1 image (at + formPlace)) 2 ≡ b → (b || none) ≡ true
+          → Reads (timerFields (if b then stored (get 2 image (at + readTimerPlace)) (get 2 image (at + writeTimerPlace)) else leftOut)) head
+      go true e t = (byte ∙ eqb-true (get 1 image (at + formPlace)) 2 e, (forRead, (forWrite, tt)))
+      go false e t =
+          let zero = and-three (eqb (get 1 image (at + formPlace)) 0) (eqb (get 2 image (at + readTimerPlace)) 0) (eqb (get 2 image (at + writeTimerPlace)) 0) t in (
+            byte ∙ eqb-true (get 1 image (at + formPlace)) 0 (zero .0),
+            (forRead ∙ eqb-true (get 2 image (at + readTimerPlace)) 0 (zero .1), (forWrite ∙ eqb-true (get 2 image (at + writeTimerPlace)) 0 (zero .2), tt)),
+          )
+
+  head-read : leb (get 1 image (at + flagPlace)) 1 ≡ true → leb (get 1 image (at + optionsPlace)) 7 ≡ true → timersInPlace image at ≡ true
+      → Reads (headFields (savedAt image at)) head
   unfolding savedAt
-  head-read flag options = (
+  head-read flag options timers = (
     front 8 nativePlace (omega arith),
     (
       front 8 visiblePlace (omega arith),
@@ -76,7 +103,7 @@ module _ (image : List ℕ) (at : ℕ) (b : Bytes image) (fits : at + bodySize �
               front 2 reorderingPlace (omega arith),
               (
                 front 2 intervalPlace (omega arith),
-                (front 1 optionsPlace (omega arith) ∙ options-exact (get 1 image (at + optionsPlace)) (leb-true (get 1 image (at + optionsPlace)) 7 options), tt),
+                (front 1 optionsPlace (omega arith) ∙ options-exact (get 1 image (at + optionsPlace)) (leb-true (get 1 image (at + optionsPlace)) 7 options), timers-read timers),
               ),
             ),
           ),
@@ -104,6 +131,7 @@ module _ (image : List ℕ) (at : ℕ) (b : Bytes image) (fits : at + bodySize �
 record BodyTests (image : List ℕ) (at : ℕ) : Type 0 where
   flag : leb (get 1 image (at + flagPlace)) 1 ≡ true
   options : leb (get 1 image (at + optionsPlace)) 7 ≡ true
+  timers : timersInPlace image at ≡ true
   zeroes : allZero (part image (at + zerosPlace) zerosSize) ≡ true
   fixed : tableFixed image (at + headSize) ≡ true
   interval : get 2 image (at + (headSize + tableIntervalPlace)) ≡ get 2 image (at + intervalPlace)
@@ -114,14 +142,17 @@ unfolding bodyInPlace
 tests-hold image at h =
     let a = leb (get 1 image (at + flagPlace)) 1 in
     let b = leb (get 1 image (at + optionsPlace)) 7 in
+    let t = timersInPlace image at in
     let c = allZero (part image (at + zerosPlace) zerosSize) in
     let d = tableFixed image (at + headSize) in
     let e = eqb (get 2 image (at + (headSize + tableIntervalPlace))) (get 2 image (at + intervalPlace)) in
-    let w = and-three (a && b && c && d) e (inRange (savedAt image at)) h in
-    let v = and-three (a && b) c d (w .0) in
+    let w = and-three (a && b && t && c && d) e (inRange (savedAt image at)) h in
+    let v = and-three (a && b && t) c d (w .0) in
+    let u = and-three a b t (v .0) in
     record {
-      flag = and-left a b (v .0);
-      options = and-right a b (v .0);
+      flag = u .0;
+      options = u .1;
+      timers = u .2;
       zeroes = v .1;
       fixed = v .2;
       interval = eqb-true (get 2 image (at + (headSize + tableIntervalPlace))) (get 2 image (at + intervalPlace)) (w .1);
@@ -131,7 +162,7 @@ tests-hold image at h =
 hold-tests : (image : List ℕ) (at : ℕ) → BodyTests image at → bodyInPlace image at ≡ true
 unfolding bodyInPlace
 hold-tests image at t =
-    rw (t .flag, t .options, t .zeroes, t .fixed, eq-eqb (get 2 image (at + (headSize + tableIntervalPlace))) (get 2 image (at + intervalPlace)) (t .interval), t .ranged)
+    rw (t .flag, t .options, t .timers, t .zeroes, t .fixed, eq-eqb (get 2 image (at + (headSize + tableIntervalPlace))) (get 2 image (at + intervalPlace)) (t .interval), t .ranged)
 
 module _ (image : List ℕ) (at : ℕ) (b : Bytes image) (fits : at + bodySize ≤ length image) where
   -- from the tests to the body
@@ -141,7 +172,7 @@ module _ (image : List ℕ) (at : ℕ) (b : Bytes image) (fits : at + bodySize �
       let s = savedAt image at in
       let front =
       form-unique headSize (headFields s) (part image at headSize) (bytes-part image at headSize b) (length-part image at headSize (omega arith)) refl
-      (head-read image at b fits (t .flag) (t .options)) (head-rest image at b fits (t .zeroes)) in
+      (head-read image at b fits (t .flag) (t .options) (t .timers)) (head-rest image at b fits (t .zeroes)) in
       let table = table-is image (at + headSize) b (omega arith) (t .fixed) in
       sym
       (take-add headSize sectorSize (drop at image)
@@ -159,6 +190,24 @@ module _ (image : List ℕ) (at : ℕ) (b : Bytes image) (fits : at + bodySize �
       history-place : at + headSize + tableHeadSize ≡ at + (headSize + tableHeadSize)
       history-place = omega arith
 
+  -- .. and back
+  held-in-place : BodyAt (savedAt image at) (part image at bodySize) → timersInPlace image at ≡ true
+  unfolding timersInPlace savedAt
+  held-in-place says = go (eqb (get 1 image (at + formPlace)) 2) (says .timers)
+    where
+      number : (k i : ℕ) → i + k ≤ bodySize → get k image (at + i) ≡ get k (part image at bodySize) i
+      number k i h = sym (get-part k image at bodySize i h)
+
+      go : (b : Bool) → TimersHeld (if b then stored (get 2 image (at + readTimerPlace)) (get 2 image (at + writeTimerPlace)) else leftOut) (part image at bodySize)
+          → (b || (eqb (get 1 image (at + formPlace)) 0 && eqb (get 2 image (at + readTimerPlace)) 0 && eqb (get 2 image (at + writeTimerPlace)) 0)) ≡ true
+      go true held = refl
+      go false held =
+          rw (
+            eq-eqb (get 1 image (at + formPlace)) 0 (number 1 formPlace (omega arith) ∙ held .0),
+            eq-eqb (get 2 image (at + readTimerPlace)) 0 (number 2 readTimerPlace (omega arith) ∙ held .1),
+            eq-eqb (get 2 image (at + writeTimerPlace)) 0 (number 2 writeTimerPlace (omega arith) ∙ held .2),
+          )
+
   -- from a body that holds to the tests
   passes : bodyBytes (savedAt image at) ≡ part image at bodySize → inRange (savedAt image at) ≡ true → BodyTests image at
   passes again ranged =
@@ -175,6 +224,7 @@ module _ (image : List ℕ) (at : ℕ) (b : Bytes image) (fits : at + bodySize �
         options =
             le-leb (get 1 image (at + optionsPlace)) 7
             (omega (arith, options, bit-small (s .writeCache .persistent), bit-small (s .reordering .persistent), bit-small (s .logInterval .persistent)));
+        timers = held-in-place says;
         zeroes =
             zero-all-true (part image (at + zerosPlace) zerosSize)
             (λ i h.

@@ -12,8 +12,8 @@ ghost use lib.ListN.{length};
 ghost use Rattle.wire.specs.Parts.{part};
 ghost use Rattle.wire.specs.Bytes.{same};
 ghost use Rattle.model.specs.Sizes.{bodySize, trailerSize, entrySize, entryLimit};
-ghost use Rattle.model.specs.Image.{Saved, savedAt, inRange, alike, tag, previousPlace, trailerPlace, entryHolds};
-ghost use Rattle.image.specs.EntryTests.{bodyInPlace, trailerInPlace};
+ghost use Rattle.model.specs.Image.{Saved, formOf, savedAt, inRange, alike, tag, previousPlace, trailerPlace, entryHolds};
+ghost use Rattle.image.specs.EntryTests.{timersInPlace, bodyInPlace, trailerInPlace, NewestIs};
 
 // "then the letters SCTE"
 pub const TAG: [u8; 4] = *b"SCTE";
@@ -26,7 +26,15 @@ pub fn native_at(image: &[u8], at: usize) -> u64
     wire::u64_at(image, at + entry::NATIVE_AT)
 }
 
-// "values in range": N and V, the states of the features, the index.
+// The form of the body at `at`.
+pub fn form_at(image: &[u8], at: usize) -> u32
+    requires { ⌜ at + bodySize ≤ length (now image) ⌝ }
+    ensures { λ r. ⌜ r ≡ formOf (savedAt (now (image .entry)) at .timers) ⌝ }
+{
+    entry_timers::form_of(entry_timers::timers_at(image, at))
+}
+
+// "values in range": N and V, the states of the features, the index, the timers.
 fn values_in_range(image: &[u8], at: usize) -> bool
     requires { ⌜ at + bodySize ≤ length (now image) ⌝ }
     ensures { λ r. ⌜ r ≡ inRange (savedAt (now (image .entry)) at) ⌝ }
@@ -37,10 +45,24 @@ fn values_in_range(image: &[u8], at: usize) -> bool
     let reordering = wire::u16_at(image, at + entry::REORDERING_AT);
     let interval = wire::u16_at(image, at + entry::INTERVAL_AT);
     let index = wire::u16_at(image, at + entry::INDEX_AT);
+    let timers = entry_timers::timers_at(image, at);
     ((1 <= native) & (native <= NATIVE_LIMIT))
         & ((1 <= visible) & (visible <= native))
         & record_check::states_named(cache, reordering, interval)
         & (index < HISTORY_U16)
+        & entry_timers::timers_named(timers)
+}
+
+// In form 2 byte 25 is 2; in form 1 it is 0, and so are the places of the timers.
+fn timers_hold(image: &[u8], at: usize) -> bool
+    requires { ⌜ at + bodySize ≤ length (now image) ⌝ }
+    ensures { λ r. ⌜ r ≡ timersInPlace (now (image .entry)) at ⌝ }
+{
+    let form = wire::u8_at(image, at + entry::FORM_AT);
+    let for_read = wire::u16_at(image, at + entry::READ_TIMER_AT);
+    let for_write = wire::u16_at(image, at + entry::WRITE_TIMER_AT);
+    (form == entry::WITH_TIMERS)
+        | ((form == entry::WITHOUT_TIMERS) & (for_read == 0) & (for_write == 0))
 }
 
 // Whether the body at `at` holds.
@@ -50,20 +72,27 @@ fn body_holds(image: &[u8], at: usize) -> bool
 {
     let flag = wire::u8_at(image, at + entry::FLAG_AT);
     let options = wire::u8_at(image, at + entry::OPTIONS_AT);
+    let timers = timers_hold(image, at);
     let zero = runs::is_zero(image, at + entry::ZEROS_AT, entry::ZEROS);
     let fixed = record_check::table_fixed(image, at + entry::TABLE_AT);
     let logged = wire::u16_at(image, at + entry::TABLE_INTERVAL_AT);
     let state = wire::u16_at(image, at + entry::INTERVAL_AT);
     let ranged = values_in_range(image, at);
-    (flag <= 1) & (options <= entry::OPTIONS_LIMIT) & zero & fixed & (logged == state) & ranged
+    (flag <= 1)
+        & (options <= entry::OPTIONS_LIMIT)
+        & timers
+        & zero
+        & fixed
+        & (logged == state)
+        & ranged
 }
 
-// "all entries have the same N": whether the body at `at` is like that of the newest entry, whose N is `native`.
-fn alike(native: u64, image: &[u8], at: usize) -> bool
+// "all entries have the same N"; "A chain may not mix forms": whether the body at `at` is like that of the newest entry, which has this N and form.
+fn alike(native: u64, form: u32, image: &[u8], at: usize) -> bool
     requires { ⌜ at + bodySize ≤ length (now image) ⌝ }
-    ensures { λ r. ⌜ ((newest : Saved) → newest .native ≡ native → r ≡ alike newest (savedAt (now (image .entry)) at)) ⌝ }
+    ensures { λ r. ⌜ ((newest : Saved) → NewestIs newest native form → r ≡ alike newest (savedAt (now (image .entry)) at)) ⌝ }
 {
-    native_at(image, at) == native
+    (native_at(image, at) == native) & (form_at(image, at) == form)
 }
 
 // "the place of the previous trailer (FFFFFFFFh for the first)"
@@ -99,14 +128,14 @@ fn trailer_holds(image: &[u8], at: usize, number: u32) -> bool
     (size == BODY_U32) & (before == previous_place(number)) & (named == number) & letters
 }
 
-// Whether entry `number` holds, given the newest entry's N, `native`; the entry's trailer is at `at`.
-pub fn entry_holds(native: u64, image: &[u8], at: usize, number: u32) -> bool
+// Whether entry `number` holds, given N and form of the newest entry; the entry's trailer is at `at`.
+pub fn entry_holds(native: u64, form: u32, image: &[u8], at: usize, number: u32) -> bool
     requires { ⌜ (1 ≤ number) × (number ≤ entryLimit) × (at ≡ trailerPlace number) ⌝ }
     requires long { ⌜ entrySize * number ≤ length (now image) ⌝ }
-    ensures { λ r. ⌜ ((newest : Saved) → newest .native ≡ native → r ≡ entryHolds newest (now (image .entry)) number) ⌝ }
+    ensures { λ r. ⌜ ((newest : Saved) → NewestIs newest native form → r ≡ entryHolds newest (now (image .entry)) number) ⌝ }
 {
     let body = body_holds(image, at - BODY);
-    let same = alike(native, image, at - BODY);
+    let same = alike(native, form, image, at - BODY);
     let trailer = trailer_holds(image, at, number);
     body & same & trailer
 }

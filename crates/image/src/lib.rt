@@ -3,6 +3,8 @@ mod chain;
 mod entry;
 mod refusal;
 
+pub use chain::chain_form;
+pub use chain::readable;
 pub use entry::TAG;
 pub use entry::previous_place;
 pub use refusal::read_refusal;

@@ -2,7 +2,7 @@
 use mathlib.Core.Path.{_≡_, sym, _∙_}
 use mathlib.Core.Bool.{true}
 use mathlib.Core.List.{List}
-use Prim.Native.Nat.{ℕ, _+_, _/_, _≤_, _<_}
+use Prim.Native.Nat.{ℕ, _+_, _/_, _%_, _≤_, _<_}
 use native.Mathlib.Omega.{arith}
 use lib.ListN.{length}
 use lib.Dec.{leb, ltb}
@@ -12,6 +12,7 @@ use Rattle.wire.proofs.ChoiceLaws.{and-left, and-right, all-pass, pass-all}
 use Rattle.model.specs.Sizes.{entrySize, entryLimit}
 use Rattle.model.specs.Disk.{Disk, nativeSize}
 use Rattle.model.specs.Image.{entries, imageChecks}
+use Rattle.model.proofs.ImageLaws.{readable-parts}
 use Rattle.store.specs.Areas.{recordSize, privateSize}
 use Rattle.store.specs.Sound.{sound}
 use Rattle.store.specs.Entries.{saveChecks, powerOnChecks}
@@ -19,6 +20,7 @@ use Rattle.store.specs.Entries.{saveChecks, powerOnChecks}
 pub record SavePassed (r image : List ℕ) (used : ℕ) : Type 0 where
   pub isSound : sound r ≡ true
   pub room : used + entrySize ≤ length image
+  pub whole : used % entrySize ≡ 0
   pub number : used / entrySize < entryLimit
 
 pub save-passed : (r image : List ℕ) (used : ℕ) {n : ℕ} → n ≡ firstFailed (saveChecks r image used) → n ≡ 0 → SavePassed r image used
@@ -28,6 +30,7 @@ save-passed r image used e z =
     record {
       isSound = all .0;
       room = leb-true (used + entrySize) (length image) (and-right (ltb (entries used) entryLimit) (leb (used + entrySize) (length image)) room);
+      whole = readable-parts image used (all .1 .1 .0) .multiple;
       number = ltb-true (entries used) entryLimit (and-left (ltb (entries used) entryLimit) (leb (used + entrySize) (length image)) room);
     }
 

@@ -1,4 +1,4 @@
-// The answers of a step, with the names that they have in crates/model/specs/Sizes and in the header.
+// The answers, with the names that they have in crates/model/specs/Sizes and in the header.
 
 // "No. Meaning"
 pub const DONE: u32 = 0;
@@ -18,3 +18,6 @@ pub const BAD_IMAGE: u32 = 6;
 pub const OTHER_DISK: u32 = 7;
 
 pub const IMAGE_FULL: u32 = 8;
+
+// W-204: "going back from timers other than 70 and 70 is answer 9"
+pub const OTHER_TIMERS: u32 = 9;

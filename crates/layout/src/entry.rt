@@ -27,7 +27,23 @@ pub const LOG_INTERVAL_OPTION: u8 = 4;
 
 pub const OPTIONS_LIMIT: u8 = WRITE_CACHE_OPTION + REORDERING_OPTION + LOG_INTERVAL_OPTION;
 
-pub const ZEROS_AT: usize = 25;
+// W-204: "byte 25 is 2 and bytes 26 to 29 hold the read and write timers"; "Form 1 has byte 25 = 0"
+pub const FORM_AT: usize = 25;
+
+pub const WITHOUT_TIMERS: u8 = 0;
+
+pub const WITH_TIMERS: u8 = 2;
+
+pub const READ_TIMER_AT: usize = 26;
+
+pub const WRITE_TIMER_AT: usize = 28;
+
+pub const ZEROS_AT: usize = 30;
+
+// The forms by their numbers: form 1 leaves the timers out.
+pub const FORM_1: u32 = 1;
+
+pub const FORM_2: u32 = 2;
 
 pub const TABLE_AT: usize = 32;
 

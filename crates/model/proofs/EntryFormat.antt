@@ -18,13 +18,14 @@ use Rattle.wire.proofs.LayoutLaws.{length-form, reads-form, form-outside}
 use Rattle.model.specs.Sizes.{sectorSize}
 use Rattle.model.specs.Device.{Device}
 use Rattle.model.specs.Temperature.{tableBytes}
-use Rattle.model.specs.Image.{Saved, savedFrom, zerosPlace, headSize, headFields, bodyBytes, tag, trailerPlace, noTrailer, linkPlace, numberPlace, tagPlace, trailerFields, trailerBytes}
+use Rattle.model.specs.Image.{leftOut, stored, Saved, savedFrom, zerosPlace, headSize, headFields, bodyBytes, tag, trailerPlace, noTrailer, linkPlace, numberPlace, tagPlace, trailerFields, trailerBytes}
 use Rattle.model.specs.ImageForm.{SavedFits}
-use Rattle.model.proofs.EntryLaws.{length-table, length-body, length-trailer, head-reads}
+use Rattle.model.proofs.EntryLaws.{TimersHeld, timers-held, length-table, length-body, length-trailer, head-reads}
 
 -- ---- what a device saves
 
-pub record SavedIs (d : Device) (s : Saved) : Type 0 where
+-- s is what is saved of d; its timers by the form, in numbers
+pub record SavedIs (entryForm : ℕ) (d : Device) (s : Saved) : Type 0 where
   pub sizes : (s .native ≡ d .native) × (s .visible ≡ d .visible)
   pub initialized : s .initialized ≡ d .initialized
   pub lifeMaximum : s .lifeMaximum ≡ d .thermal .lifeMaximum
@@ -33,10 +34,13 @@ pub record SavedIs (d : Device) (s : Saved) : Type 0 where
   pub logInterval : s .logInterval ≡ d .settings .logInterval
   pub history : s .history ≡ d .thermal .history
   pub index : s .index ≡ d .thermal .index
+  -- W-204: "form 1 leaves the timers out"
+  pub timersLeftOut : entryForm ≡ 1 → s .timers ≡ leftOut
+  pub timersStored : entryForm ≡ 2 → s .timers ≡ stored (d .settings .readTimer) (d .settings .writeTimer)
 
-pub saved-from : (d : Device) → SavedIs d (savedFrom d)
+pub saved-from : (entryForm : ℕ) (d : Device) → SavedIs entryForm d (savedFrom entryForm d)
 unfolding savedFrom
-saved-from d =
+saved-from entryForm d =
     record {
       sizes = (refl, refl);
       initialized = refl;
@@ -46,6 +50,8 @@ saved-from d =
       logInterval = refl;
       history = refl;
       index = refl;
+      timersLeftOut = λ e. rw e;
+      timersStored = λ e. rw e;
     }
 
 -- ---- the body
@@ -61,11 +67,12 @@ pub record BodyAt (s : Saved) (b : List ℕ) : Type 0 where
   pub reordering : get 2 b 20 ≡ s .reordering .state
   pub logInterval : get 2 b 22 ≡ s .logInterval .state
   pub options : get 1 b 24 ≡ 1 * bit (s .writeCache .persistent) + 2 * bit (s .reordering .persistent) + 4 * bit (s .logInterval .persistent)
-  pub zero : (i : ℕ) → 25 ≤ i → i < 32 → getD b i 0 ≡ 0
+  pub timers : TimersHeld (s .timers) b
+  pub zero : (i : ℕ) → 30 ≤ i → i < 32 → getD b i 0 ≡ 0
   pub table : part b 32 512 ≡ tableBytes (s .logInterval .state) (s .index) (s .history)
   pub size : length b ≡ 544
 
--- bytes 25 to 31 belong to no field
+-- bytes 30 and 31 belong to no field
 head-gap : (s : Saved) → below headSize (λ i. ltb i zerosPlace || outside (headFields s) i) ≡ true
 head-gap s = refl
 
@@ -85,6 +92,7 @@ body-at s f =
       reordering = r .1 .1 .1 .1 .1 .0;
       logInterval = r .1 .1 .1 .1 .1 .1 .0;
       options = r .1 .1 .1 .1 .1 .1 .1 .0 ∙ omega arith;
+      timers = timers-held (s .timers) (bodyBytes s) (r .1 .1 .1 .1 .1 .1 .1 .1);
       zero = λ i low high.
           List·getD-append head rest 0 i (rw size high)
           ∙ form-outside headSize (headFields s) i

@@ -16,8 +16,8 @@ use Rattle.wire.proofs.ChoiceLaws.{and-left, and-right, and-both, and-three, th
 use Rattle.wire.proofs.PartsLaws.{length-part, part-part, get-part, part-append-left, part-append-right}
 use Rattle.wire.proofs.BytesLaws.{bytes-part, same-refl, same-true}
 use Rattle.model.specs.Sizes.{bodySize, trailerSize, entrySize, entryLimit}
-use Rattle.model.specs.Image.{Saved, bodyBytes, savedAt, inRange, bodyHolds, trailerPlace, previousPlace, linkPlace, trailerBytes, bodyAt, trailerAt, alike, entryHolds, every, entries, newestIn, readable, chainHolds, sameDisk}
-use Rattle.model.specs.ImageForm.{SavedFits, AreAlike, EntryForm, ImageForm}
+use Rattle.model.specs.Image.{Saved, bodyBytes, timersAt, savedAt, inRange, bodyHolds, trailerPlace, previousPlace, linkPlace, trailerBytes, bodyAt, trailerAt, alike, entryHolds, every, entries, newestIn, readable, chainHolds, sameDisk}
+use Rattle.model.specs.ImageForm.{AreAlike, EntryForm, ImageForm}
 use Rattle.model.proofs.EntryFormat.{get-trailer, trailer-fields}
 use Rattle.model.proofs.EntryLaws.{length-body, length-trailer, saved-back, saved-at, body-holds, read-fits, alike-parts, parts-alike, alike-others}
 
@@ -219,6 +219,11 @@ form-readable image used f =
 -- .. is the last 560 bytes of the used length
 pub newest-at : (image : List ℕ) (used : ℕ) → used % entrySize ≡ 0 → entrySize ≤ used → newestIn image used ≡ savedAt image (used - entrySize)
 newest-at image used whole some = saved-at image (trailerPlace (entries used) - bodySize) ∙ ap (savedAt image) (omega arith)
+
+-- the timers that it holds
+pub newest-timers-at : (image : List ℕ) (used : ℕ) → used % 560 ≡ 0 → 560 ≤ used → newestIn image used .timers ≡ timersAt image (used - 560)
+unfolding savedAt
+newest-timers-at image used whole some = ap (λ (s : Saved). s .timers) (newest-at image used whole some)
 
 -- "newest entry's N is not this disk's": N is its first field
 newest-native : (image : List ℕ) (used : ℕ) → used % 560 ≡ 0 → 560 ≤ used → newestIn image used .native ≡ get 8 image (used - 560)

@@ -6,7 +6,7 @@ use mathlib.Core.List.{List, [], _++_}
 use lib.ListN.{length}
 use lib.Seq.{sets}
 use Rattle.wire.specs.Choice.{firstFailed}
-use Rattle.model.specs.Image.{savedFrom, bodyBytes, trailerBytes, entries, savedImage, restored}
+use Rattle.model.specs.Image.{savedFrom, bodyBytes, trailerBytes, entries, chainForm, savedImage, restored}
 use Rattle.model.specs.Image.{powerOn as powerOnDevice}
 use Rattle.model.specs.Machine.{empty, Machine}
 use Rattle.model.specs.Step.{save, powerOn, Outcome, checks, poweredOn, step}
@@ -17,7 +17,7 @@ use Rattle.model.proofs.StepLaws.{step-done, answer-is}
 -- "A save adds one entry behind the used length; other bytes stay."
 pub record Saves (image : List ℕ) (used : ℕ) (M : Machine) (o : Outcome Machine) : Type 0 where
   pub machineAfter : o .state ≡ M
-  pub imageAfter : o .seen .image ≡ sets image used (bodyBytes (savedFrom (M .device)) ++ trailerBytes (used / 560 + 1))
+  pub imageAfter : o .seen .image ≡ sets image used (bodyBytes (savedFrom (chainForm image used) (M .device)) ++ trailerBytes (used / 560 + 1))
   pub usedAfter : o .seen .used ≡ used + 560
   pub noMore : (o .seen .count ≡ 0) × (o .seen .mailbox ≡ [])
 
@@ -30,7 +30,7 @@ save-leaves image used M done =
     (
     record {
       machineAfter = refl;
-      imageAfter = ap (λ (n : ℕ). sets image used (bodyBytes (savedFrom (M .device)) ++ trailerBytes n)) number;
+      imageAfter = ap (λ (n : ℕ). sets image used (bodyBytes (savedFrom (chainForm image used) (M .device)) ++ trailerBytes n)) number;
       usedAfter = refl;
       noMore = (refl, refl);
     }

@@ -34,6 +34,12 @@ pub mod PowerOnLaws
 pub mod ImageSteps
 pub mod RecoveryTimers
 pub mod SavedThenOn
+pub mod EntryTimers
+pub mod SavedForm
+pub mod ConvertedBytes
+pub mod ConvertedEntries
+pub mod ConvertRefusals
+pub mod ConvertLaws
 pub mod ValidStep
 pub mod ValidClauses
 pub mod HiddenLaws

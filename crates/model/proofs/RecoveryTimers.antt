@@ -1,7 +1,7 @@
--- The recovery timers (W-203): both are 70 after every power-on that answers 0, which function 2 then returns; a timer set to 0 is off.
-use mathlib.Core.Path.{_≡_, refl, ap, _∙_}
+-- The recovery timers: what they are after every power-on that answers 0 (W-203, W-204), which function 2 then returns; a timer set to 0 is off.
+use mathlib.Core.Path.{_≡_, refl, sym, ap, _∙_}
 use mathlib.Core.Bool.{false}
-use Prim.Native.Nat.{ℕ, _<_, _/_}
+use Prim.Native.Nat.{ℕ, _/_, _<_}
 use native.Mathlib.Omega.{arith}
 use mathlib.Core.List.{List, [], _∷_}
 use lib.ListN.{length}
@@ -16,13 +16,14 @@ use Rattle.model.specs.Fill.{interrupt}
 use Rattle.model.specs.Decide.{Serving, timer, withTimer}
 use Rattle.model.specs.Image.{restored}
 use Rattle.model.specs.Machine.{request, reply, Machine}
-use Rattle.model.specs.Step.{take, give, powerOn, Seen, answeredMailbox, step}
-use Rattle.model.proofs.StepLaws.{take-keeps, take-alone, give-delivers}
+use Rattle.model.specs.Step.{take, give, powerOn, Seen, answeredMailbox, checks, step}
+use Rattle.model.proofs.StepLaws.{answer-is, answers-numbered, take-keeps, take-alone, give-delivers}
 use Rattle.model.proofs.KeyTable.{accepts-timer, accepts-timer-return}
 use Rattle.model.proofs.AcceptedLaws.{word-in-request, directionNumber, direction-within, accepted-set-timer, accepted-return-timer}
 use Rattle.model.proofs.RequestLaws.{serveOn, interrupt-kept, serves-set-timer, serves-return-timer}
-use Rattle.model.proofs.PowerOnLaws.{kept-rules}
+use Rattle.model.proofs.PowerOnLaws.{kept-rules, TimersOn, timers-restored}
 use Rattle.model.proofs.ImageSteps.{power-on-leaves}
+use Rattle.wire.proofs.ChoiceLaws.{all-pass}
 
 -- ---- replies: Status 50h, the value in Sector Count, and every other byte 0
 
@@ -89,36 +90,39 @@ module _ (s : Serving) (M : Machine) (m : List ℕ) (port : s .port < portCount)
       let changed = one-timer-set t 0 (stopped .settings) in
       (w .replied ∙ ap reply plain-reply, rw (w .deviceAfter) (changed .0), rw (w .deviceAfter) (changed .1) ∙ ap (timer (otherTimer t)) same-settings)
 
--- ---- "Both error recovery timers shall be 70 (7 seconds) at power-on."
+-- ---- the timers at power-on
 
 module _ (image : List ℕ) (used : ℕ) (M : Machine) (answers : step (powerOn image used) M .seen .answer ≡ 0) where
   abbrev on : Machine
   on = step (powerOn image used) M .state
 
-  -- THEOREM: after every power-on that answers 0, from an empty image or a saved one, both timers are 70.
-  pub timers-on : (on .device .settings .readTimer ≡ 70) × (on .device .settings .writeTimer ≡ 70)
-  timers-on = rw (power-on-leaves image used M answers .device) (kept-rules (restored (length (M .disk .sectors) / 512) image used) .timers)
-
-  seventy : (t : Direction) → timer t (on .device .settings) ≡ 70
-  seventy read = timers-on .0
-  seventy write = timers-on .1
+  -- THEOREM: the timers after every power-on that answers 0, from the image's bytes.
+  pub timers-on : TimersOn image used (on .device .settings .readTimer) (on .device .settings .writeTimer)
+  timers-on =
+      let passed = all-pass 8 (checks (powerOn image used) M) (answers-numbered (powerOn image used) M) (sym (answer-is (powerOn image used) M) ∙ answers) in
+      rw (power-on-leaves image used M answers .device) (timers-restored (length (M .disk .sectors) / 512) image used (passed .1 .1 .0))
 
   -- a request that asks for either timer, taken straight after the power-on and served
   module _ (s : Serving) (m : List ℕ) (port : s .port < portCount) (size : length m ≡ mailboxSize) (isKey : requestOf m ≡ keySector) (t : Direction) (action : get 2 m 16 ≡ 3) (function : get 2 m 18 ≡ 2) (named : get 2 m 20 ≡ directionNumber t) where
     abbrev served : Machine
     served = serveOn s (step (take (s .port) m) on .state) .state
 
-    replied-seventy : served .ports (s .port) ≡ reply (form 1040 ((2, 1, 0x46) ∷ (12, 1, 0x50) ∷ []))
-    replied-seventy =
+    replied-timer : served .ports (s .port) ≡ reply (replyBytes (good (timer t (on .device .settings)) 0) [])
+    replied-timer =
         let is = power-on-leaves image used M answers in
         let taken = take-keeps (s .port) m on port size (is .ports (s .port)) in
         let same = take-alone (s .port) m on (ap (λ (o : Seen). o .answer) (taken .0)) .device in
         let unlocked = ap (λ (d : Device). d .locked) (same ∙ is .device) ∙ kept-rules (restored (length (M .disk .sectors) / 512) image used) .unlocked in
         returns-timer s (step (take (s .port) m) on .state) m port (taken .1) isKey unlocked t action named function
         ∙ ap (λ (d : Device). reply (replyBytes (good (timer t (d .settings)) 0) [])) same
-        ∙ ap (λ (n : ℕ). reply (replyBytes (good n 0) [])) (seventy t)
-        ∙ ap reply seventy-reply
 
-    -- THEOREM: the give answers 0, and the mailbox then has 0046h: 46h in Sector Count, 0 in LBA Low, Status 50h, and every other byte 0.
-    pub returns-seventy : (n : List ℕ) → length n ≡ mailboxSize → step (give (s .port) n) served .seen ≡ answeredMailbox 0 (form 1040 ((2, 1, 0x46) ∷ (12, 1, 0x50) ∷ []))
-    returns-seventy n whole = give-delivers (s .port) n _ served port whole replied-seventy .0
+    -- THEOREM: the give answers 0, and the mailbox then has the timer that power-on left ..
+    pub returns-timer-on : (n : List ℕ) → length n ≡ mailboxSize
+        → step (give (s .port) n) served .seen ≡ answeredMailbox 0 (replyBytes (good (timer t (on .device .settings)) 0) [])
+    returns-timer-on n whole = give-delivers (s .port) n _ served port whole replied-timer .0
+
+    -- .. and a timer of 70 as 0046h: 46h in Sector Count, 0 in LBA Low, Status 50h, and every other byte 0.
+    pub returns-seventy : (n : List ℕ) → length n ≡ mailboxSize → timer t (on .device .settings) ≡ 70
+        → step (give (s .port) n) served .seen ≡ answeredMailbox 0 (form 1040 ((2, 1, 0x46) ∷ (12, 1, 0x50) ∷ []))
+    returns-seventy n whole seventy =
+        returns-timer-on n whole ∙ ap (λ (v : ℕ). answeredMailbox 0 (replyBytes (good v 0) [])) seventy ∙ ap (answeredMailbox 0) seventy-reply

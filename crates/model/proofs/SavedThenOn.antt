@@ -1,12 +1,10 @@
 -- A save that answers 0, and then a power-on from that image on that disk.
 use mathlib.Core.Path.{_≡_, sym, ap, _∙_}
 use Prim.Native.Nat.{ℕ, _+_, _*_, _/_}
-use native.Mathlib.Omega.{arith}
 use mathlib.Core.List.{List}
-use lib.ListN.{length}
 use Rattle.wire.specs.Choice.{firstFailed}
 use Rattle.model.specs.Sizes.{entrySize}
-use Rattle.model.specs.Image.{savedFrom, saveChecks, savedImage, powerOnChecks, restored}
+use Rattle.model.specs.Image.{savedFrom, saveChecks, chainForm, savedImage, powerOnChecks, restored}
 use Rattle.model.specs.Image.{powerOn as powerOnDevice}
 use Rattle.model.specs.Machine.{Machine}
 use Rattle.model.specs.Step.{save, powerOn, Seen, Outcome, answeredImage, step}
@@ -38,7 +36,7 @@ module _ (M N : Machine) (image : List ℕ) (used : ℕ) (ok : MachineValid M) (
   pub power-on-answers : step (powerOn (saved .image) (saved .used)) N .seen .answer ≡ 0
   power-on-answers = answer-is (powerOn (saved .image) (saved .used)) N ∙ on-passed
 
-  device-on : step (powerOn (saved .image) (saved .used)) N .state .device ≡ powerOnDevice (savedFrom (M .device))
+  device-on : step (powerOn (saved .image) (saved .used)) N .state .device ≡ powerOnDevice (savedFrom (chainForm image used) (M .device))
   device-on =
       power-on-leaves (saved .image) (saved .used) N power-on-answers .device
       ∙ rw saved-is
@@ -46,5 +44,5 @@ module _ (M N : Machine) (image : List ℕ) (used : ℕ) (ok : MachineValid M) (
       (ap (λ (n : ℕ). restored n (savedImage (M .device) image used) (used + entrySize)) (native-size (M .device .native) (N .disk) size) ∙ restored-saved (M .device) image used (ok .deviceValid) passed))
 
   -- THEOREM: "A saved image read back gives what was saved, as the power-on rules keep it"
-  pub saved-read-back : KeptRules (savedFrom (M .device)) (step (powerOn (saved .image) (saved .used)) N .state .device)
-  saved-read-back = rw device-on (kept-rules (savedFrom (M .device)))
+  pub saved-read-back : KeptRules (savedFrom (chainForm image used) (M .device)) (step (powerOn (saved .image) (saved .used)) N .state .device)
+  saved-read-back = rw device-on (kept-rules (savedFrom (chainForm image used) (M .device)))

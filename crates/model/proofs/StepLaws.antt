@@ -58,9 +58,9 @@ answer-first {S} x (suc k) o s t success e f g = ap (λ (y : Outcome S). y .seen
 pub answer-is : (x : Step) (M : Machine) → step x M .seen .answer ≡ firstFailed (checks x M)
 answer-is x M = answer-first x (firstFailed (checks x M)) (step x M) M (does x M) (seenDone x M) (seen-done x M) (step-done x M) (step-refused x M)
 
--- ---- "Order where several apply: 4, 2, 1, 5, 3, 6, 7, 8."
+-- ---- "Order where several apply: 4, 2, 1, 5, 3, 6, 7, 8."; W-204: "answer 9, after 6"
 
-pub order-numbers : refusalOrder ≡ 4 ∷ 2 ∷ 1 ∷ 5 ∷ 3 ∷ 6 ∷ 7 ∷ 8 ∷ []
+pub order-numbers : refusalOrder ≡ 4 ∷ 2 ∷ 1 ∷ 5 ∷ 3 ∷ 6 ∷ 7 ∷ 8 ∷ 9 ∷ []
 order-numbers = refl
 
 -- the position of a number in a list

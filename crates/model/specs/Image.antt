@@ -13,12 +13,30 @@ use Rattle.wire.specs.Bytes.{same}
 use Rattle.model.specs.Sizes.{sectorSize, checkSize, nativeLimit, historySize, missing, powerOnTimer, bodySize, trailerSize, entrySize, entryLimit, badLength, badImage, otherDisk, imageFull}
 use Rattle.model.specs.Disk.{Disk, nativeSize}
 use Rattle.model.specs.Device.{idle, Feature, Settings, Thermal, Device}
-use Rattle.model.specs.Key.{statesNamed}
+use Rattle.model.specs.Key.{timerNamed, statesNamed}
 use Rattle.model.specs.Temperature.{emptyHistory, emptyIndex, tableIndexPlace, tableHeadSize, tableBytes}
 use Rattle.model.specs.Fill.{nothingPending}
 use Rattle.model.specs.Buffers.{Image}
 
 -- ---- an entry
+
+-- What an entry holds of the recovery timers (W-204): an entry of form 1 nothing, one of form 2 the read and the write timer.
+pub data SavedTimers : Type 0 where
+  leftOut : SavedTimers
+  stored : ℕ → ℕ → SavedTimers
+
+abbrev pub formOf : SavedTimers → ℕ
+formOf leftOut = 1
+formOf (stored forRead forWrite) = 2
+
+-- these timers in an entry of this form: "form 1 leaves the timers out"
+abbrev pub timersIn : ℕ → ℕ → ℕ → SavedTimers
+timersIn entryForm forRead forWrite = if eqb entryForm 1 then leftOut else stored forRead forWrite
+
+-- the read and the write timer that an entry means: "Form 1 .. means 70 and 70."
+abbrev pub timersMeant : SavedTimers → ℕ × ℕ
+timersMeant leftOut = (powerOnTimer, powerOnTimer)
+timersMeant (stored forRead forWrite) = (forRead, forWrite)
 
 -- what an entry saves
 pub record Saved : Type 0 where
@@ -31,9 +49,11 @@ pub record Saved : Type 0 where
   pub logInterval : Feature
   pub history : List ℕ
   pub index : ℕ
+  pub timers : SavedTimers
 
-unfoldable pub savedFrom : Device → Saved
-savedFrom d =
+-- what an entry of this form saves of a device
+unfoldable pub savedFrom : ℕ → Device → Saved
+savedFrom entryForm d =
     record {
       native = d .native;
       visible = d .visible;
@@ -44,6 +64,7 @@ savedFrom d =
       logInterval = d .settings .logInterval;
       history = d .thermal .history;
       index = d .thermal .index;
+      timers = timersIn entryForm (d .settings .readTimer) (d .settings .writeTimer);
     }
 
 -- "Body: N at 0 and V at 8 (8 bytes each), flag 16, life maximum 17, features 1 to 3 at 18, 20, 22,
@@ -72,8 +93,21 @@ intervalPlace = 22
 abbrev pub optionsPlace : ℕ
 optionsPlace = 24
 
+-- W-204: "byte 25 is 2 and bytes 26 to 29 hold the read and write timers"; zeros to 31 as before
+abbrev pub formPlace : ℕ
+formPlace = 25
+
+abbrev pub formTwoByte : ℕ
+formTwoByte = 2
+
+abbrev pub readTimerPlace : ℕ
+readTimerPlace = 26
+
+abbrev pub writeTimerPlace : ℕ
+writeTimerPlace = 28
+
 abbrev pub zerosPlace : ℕ
-zerosPlace = 25
+zerosPlace = 30
 
 abbrev pub headSize : ℕ
 headSize = 32
@@ -92,8 +126,17 @@ featuresOf s =
     ∷ (optionsPlace, 1, bit (s .writeCache .persistent) + 2 * bit (s .reordering .persistent) + 4 * bit (s .logInterval .persistent))
     ∷ []
 
+-- byte 25, the read and the write timer: "Form 1 has byte 25 = 0"
+abbrev pub timerNumbers : SavedTimers → ℕ × ℕ × ℕ
+timerNumbers leftOut = (0, 0, 0)
+timerNumbers (stored forRead forWrite) = (formTwoByte, forRead, forWrite)
+
+abbrev pub timerFields : SavedTimers → List Field
+timerFields t =
+    (formPlace, 1, timerNumbers t .0) ∷ (readTimerPlace, 2, timerNumbers t .1) ∷ (writeTimerPlace, 2, timerNumbers t .2) ∷ []
+
 abbrev pub headFields : Saved → List Field
-headFields s = sizesOf s ++ featuresOf s
+headFields s = sizesOf s ++ featuresOf s ++ timerFields (s .timers)
 
 unfoldable pub bodyBytes : Saved → List ℕ
 bodyBytes s = form headSize (headFields s) ++ tableBytes (s .logInterval .state) (s .index) (s .history)
@@ -101,6 +144,11 @@ bodyBytes s = form headSize (headFields s) ++ tableBytes (s .logInterval .state)
 -- whether the bit of a weight (1, 2, 4 ..) is 1 in a byte
 abbrev pub hasBit : ℕ → ℕ → Bool
 hasBit weight byte = eqb (byte / weight % 2) 1
+
+-- the timers that the body at a place of a run holds
+abbrev pub timersAt : List ℕ → ℕ → SavedTimers
+timersAt run at =
+    if eqb (get 1 run (at + formPlace)) formTwoByte then stored (get 2 run (at + readTimerPlace)) (get 2 run (at + writeTimerPlace)) else leftOut
 
 -- the values that the fields of a body decode to, for a body at a place of a run
 unfoldable pub savedAt : List ℕ → ℕ → Saved
@@ -116,7 +164,13 @@ savedAt run at =
       logInterval = record { state = get 2 run (at + intervalPlace); persistent = hasBit 4 options };
       history = part run (at + (headSize + tableHeadSize)) historySize;
       index = get 2 run (at + (headSize + tableIndexPlace));
+      timers = timersAt run at;
     }
+
+-- W-204: "A saved timer of 1 to 9 is out of range."
+abbrev pub timersNamed : SavedTimers → Bool
+timersNamed leftOut = true
+timersNamed (stored forRead forWrite) = timerNamed forRead && timerNamed forWrite
 
 -- "values in range"
 unfoldable pub inRange : Saved → Bool
@@ -125,8 +179,9 @@ inRange s =
     && between 1 (s .visible) (s .native)
     && statesNamed (s .writeCache .state) (s .reordering .state) (s .logInterval .state)
     && ltb (s .index) historySize
+    && timersNamed (s .timers)
 
--- A body holds if it is, byte for byte, the body of values in range: so "zeros zero, table interval equal to feature 3".
+-- A body holds if it is, byte for byte, the body of values in range: so "zeros zero, table interval equal to feature 3", and byte 25 is 0 or 2.
 unfoldable pub bodyHolds : List ℕ → Bool
 bodyHolds b = same (bodyBytes (savedAt b 0)) b && inRange (savedAt b 0)
 
@@ -167,9 +222,9 @@ bodyAt image k = part image (trailerPlace k - bodySize) bodySize
 abbrev pub trailerAt : Image → ℕ → List ℕ
 trailerAt image k = part image (trailerPlace k) trailerSize
 
--- "all entries have the same N": whether an entry is like the newest. W-204 adds the form here.
+-- whether an entry is like the newest: "all entries have the same N"; W-204: "A chain may not mix forms"
 unfoldable pub alike : Saved → Saved → Bool
-alike newest s = eqb (s .native) (newest .native)
+alike newest s = eqb (s .native) (newest .native) && eqb (formOf (s .timers)) (formOf (newest .timers))
 
 -- entry k holds: its body, like the newest, and its trailer
 unfoldable pub entryHolds : Saved → Image → ℕ → Bool
@@ -223,9 +278,13 @@ hasRoom image used = ltb (entries used) entryLimit && leb (used + entrySize) (le
 abbrev pub saveChecks : ℕ → Image → ℕ → List Check
 saveChecks native image used = imageChecks native image used ++ ((hasRoom image used, imageFull) ∷ [])
 
+-- W-204: "a save keeps the form of the chain it extends .., and an empty image starts with form 2"
+abbrev pub chainForm : Image → ℕ → ℕ
+chainForm image used = if eqb used 0 then 2 else formOf (newestIn image used .timers)
+
 -- "A save adds one entry behind the used length; other bytes stay."
 unfoldable pub savedImage : Device → Image → ℕ → Image
-savedImage d image used = sets image used (bodyBytes (savedFrom d) ++ trailerBytes (suc (entries used)))
+savedImage d image used = sets image used (bodyBytes (savedFrom (chainForm image used) d) ++ trailerBytes (suc (entries used)))
 
 -- ---- power-on
 
@@ -243,7 +302,7 @@ powerOnChecks disk image used = (wellSized disk, badLength) ∷ imageChecks (nat
 abbrev pub defaultFeature : Feature
 defaultFeature = record { state = 1; persistent = false }
 
--- "Power-on from length 0 gives V = N, no flag, missing temperatures, defaults, empty history"
+-- "Power-on from length 0 gives V = N, no flag, missing temperatures, defaults, empty history"; no timers are saved, so they are 70 and 70
 abbrev pub blank : ℕ → Saved
 blank native =
     record {
@@ -256,6 +315,7 @@ blank native =
       logInterval = defaultFeature;
       history = emptyHistory;
       index = emptyIndex;
+      timers = leftOut;
     }
 
 -- "Option 1 keeps a state over power; other states return to 1."
@@ -273,9 +333,11 @@ settingsOf forRead forWrite cache reordering interval =
       logInterval = kept interval;
     }
 
--- W-203: "Both error recovery timers shall be 70 (7 seconds) at power-on."
+-- W-203: "Both error recovery timers shall be 70 (7 seconds) at power-on."; W-204: ".. the read and write timers, which power-on then restores"
 abbrev pub powerOnSettings : Saved → Settings
-powerOnSettings s = settingsOf powerOnTimer powerOnTimer (s .writeCache) (s .reordering) (s .logInterval)
+powerOnSettings s =
+    let timers = timersMeant (s .timers) in
+    settingsOf (timers .0) (timers .1) (s .writeCache) (s .reordering) (s .logInterval)
 
 -- ".. with "now" and this cycle's maximum missing. The history is kept if the interval after power-on equals the saved one; minutes are 0."
 abbrev pub powerOnThermal : Saved → Thermal

@@ -53,6 +53,10 @@ timerChecks k =
     ∷ (not (eqb (word k 1) 1 && between 1 (word k 3) 9), if eqb (word k 2) 1 then 0x0006 else 0x0007)
     ∷ []
 
+-- "each timer is 0 or at least 10"
+abbrev pub timerNamed : ℕ → Bool
+timerNamed n = eqb n 0 || leb 10 n
+
 -- "Feature states: 1 (write cache) 1 to 3; 2 (reordering) 1 or 2; 3 (log interval) 1 to 65,535 minutes."
 abbrev pub highestState : ℕ → ℕ
 highestState feature = if eqb feature 1 then 3 else if eqb feature 2 then 2 else 65535

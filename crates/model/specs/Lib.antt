@@ -15,6 +15,7 @@ pub mod Owner
 pub mod Repair
 pub mod Image
 pub mod ImageForm
+pub mod Convert
 pub mod Machine
 pub mod Step
 pub mod Valid

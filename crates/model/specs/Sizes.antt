@@ -57,7 +57,7 @@ entrySize = bodySize + trailerSize
 abbrev pub entryLimit : ℕ
 entryLimit = 117
 
--- ---- the answers of a step: "No. Meaning"
+-- ---- the answers: "No. Meaning"
 
 abbrev pub done : ℕ
 done = 0
@@ -86,6 +86,11 @@ otherDisk = 7
 abbrev pub imageFull : ℕ
 imageFull = 8
 
--- "Order where several apply: 4, 2, 1, 5, 3, 6, 7, 8."
+-- W-204: "going back from timers other than 70 and 70 is answer 9"
+abbrev pub otherTimers : ℕ
+otherTimers = 9
+
+-- "Order where several apply: 4, 2, 1, 5, 3, 6, 7, 8."; W-204: "answer 9, after 6"
 abbrev pub refusalOrder : List ℕ
-refusalOrder = badRecord ∷ badLength ∷ badPort ∷ badValue ∷ badStage ∷ badImage ∷ otherDisk ∷ imageFull ∷ []
+refusalOrder =
+    badRecord ∷ badLength ∷ badPort ∷ badValue ∷ badStage ∷ badImage ∷ otherDisk ∷ imageFull ∷ otherTimers ∷ []

@@ -13,11 +13,11 @@ ghost use mathlib.Core.List.{[], _∷_};
 ghost use Prim.Native.Nat.{ℕ, _≤_, _<_};
 ghost use lib.ListN.{length};
 ghost use lib.Dec.{leb};
-ghost use Rattle.model.specs.Key.{statesNamed};
+ghost use Rattle.model.specs.Key.{timerNamed, statesNamed};
 ghost use Rattle.model.specs.Valid.{pendingCount, pendingLimit};
 ghost use Rattle.store.specs.Areas.{recordSize};
 ghost use Rattle.store.specs.Record.{transferOf, transferAt, decode};
-ghost use Rattle.store.specs.Sound.{fillSound, transferSound, pendingSound, commandSound, timerSound, settingsSound, deviceSound};
+ghost use Rattle.store.specs.Sound.{fillSound, transferSound, pendingSound, commandSound, settingsSound, deviceSound};
 ghost use Rattle.record.specs.DeviceMeaning.{asFill, asSettings};
 
 // "if a fill runs, first ≤ next < end ≤ V"; "the stored code is FFFFh exactly while a fill runs"
@@ -109,8 +109,8 @@ fn command_sound(device: &[u8], visible: u64) -> bool
 }
 
 // "each timer is 0 or at least 10"
-fn timer_sound(n: u16) -> bool
-    ensures { λ res. ⌜ res ≡ timerSound n ⌝ }
+pub fn timer_named(n: u16) -> bool
+    ensures { λ res. ⌜ res ≡ timerNamed n ⌝ }
 {
     (n == 0) | (sct::TIMER_MINIMUM <= n)
 }
@@ -128,8 +128,8 @@ pub fn states_named(write_cache: u16, reordering: u16, log_interval: u16) -> boo
 fn settings_sound(s: Settings) -> bool
     ensures { λ res. ⌜ res ≡ settingsSound (asSettings s) ⌝ }
 {
-    timer_sound(s.read_timer)
-        & timer_sound(s.write_timer)
+    timer_named(s.read_timer)
+        & timer_named(s.write_timer)
         & states_named(
             s.write_cache.state,
             s.reordering.state,

@@ -6,5 +6,6 @@ mod table;
 mod whole;
 
 pub use clauses::states_named;
+pub use clauses::timer_named;
 pub use table::table_fixed;
 pub use whole::sound;

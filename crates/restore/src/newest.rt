@@ -37,7 +37,7 @@ fn has_bit(weight: u8, byte: u8) -> bool
     byte / weight % 2 == 1
 }
 
-// The settings of the entry at `at`, as power-on keeps them, with the timers of power-on.
+// The settings of the entry at `at`, as power-on keeps them; W-204: ".. the read and write timers, which power-on then restores".
 fn saved_settings(image: &[u8], at: usize) -> Settings
     requires { ⌜ at + bodySize ≤ length (now image) ⌝ }
     ensures { λ r. ⌜ asSettings r ≡ powerOnSettings (savedAt (now (image .entry)) at) ⌝ }
@@ -55,8 +55,10 @@ fn saved_settings(image: &[u8], at: usize) -> Settings
         state: wire::u16_at(image, at + entry::INTERVAL_AT),
         persistent: has_bit(entry::LOG_INTERVAL_OPTION, options),
     };
-    let timer = Settings::POWER_ON_TIMER;
-    Settings::power_on(timer, timer, write_cache, reordering, log_interval)
+    let timers = entry_timers::timers_at(image, at);
+    let for_read = entry_timers::read_timer(timers);
+    let for_write = entry_timers::write_timer(timers);
+    Settings::power_on(for_read, for_write, write_cache, reordering, log_interval)
 }
 
 // A device at power-on: "Unlocked, no fill, nothing owed, .. code, action and function 0".

@@ -15,7 +15,7 @@ use Rattle.wire.proofs.PartsLaws.{length-part}
 use Rattle.wire.proofs.LayoutLaws.{length-form}
 use Rattle.wire.proofs.WithinLaws.{sets-then, form-within}
 use Rattle.model.specs.Sizes.{sectorSize, bodySize}
-use Rattle.model.specs.Image.{Saved, savedFrom, headSize, sizesOf, featuresOf, headFields, bodyBytes, tag, previousPlace, linkPlace, numberPlace, tagPlace, trailerFields, trailerBytes, savedImage, entries}
+use Rattle.model.specs.Image.{Saved, savedFrom, headSize, sizesOf, featuresOf, timerFields, headFields, bodyBytes, tag, previousPlace, linkPlace, numberPlace, tagPlace, trailerFields, trailerBytes, chainForm, savedImage, entries}
 use Rattle.store.specs.Areas.{headSize as tablePlace}
 use Rattle.store.specs.Record.{decode}
 use Rattle.store.specs.Sound.{sound}
@@ -31,25 +31,20 @@ module _ (l : List ℕ) (at : ℕ) where
       ∙ ap (λ (m : List ℕ). sets m (at + tagPlace) tag) (form-within tagPlace (trailerFields k) l at refl)
       ∙ sets-then (form tagPlace (trailerFields k)) tag l at 12 (length-form tagPlace (trailerFields k))
 
-  -- the two groups of the head
-  head-stored : (s : Saved)
-      → stores (placed at (featuresOf s)) (stores (placed at (sizesOf s)) (sets l at (zeros headSize))) ≡ sets l at (form headSize (headFields s))
+  -- the three groups of the head
+  pub head-stored : (s : Saved)
+      → stores (placed at (timerFields (s .timers))) (stores (placed at (featuresOf s)) (stores (placed at (sizesOf s)) (sets l at (zeros headSize)))) ≡ sets l at (form headSize (headFields s))
   head-stored s = form-within headSize (headFields s) l at refl
 
 -- head, table and trailer together are the entry
 pub entry-stored : (r image : List ℕ) (used k : ℕ) → Bytes r → sound r ≡ true → k ≡ suc (entries used)
-    → let s = savedFrom (decode r .device) in
-    sets
-    (sets (stores (placed used (featuresOf s)) (stores (placed used (sizesOf s)) (sets image used (zeros headSize)))) (used + headSize) (part r tablePlace sectorSize))
-    (used + bodySize)
-    (trailerBytes k)
-    ≡ savedImage (decode r .device) image used
+    → let head = form headSize (headFields (savedFrom (chainForm image used) (decode r .device))) in
+    sets (sets (sets image used head) (used + headSize) (part r tablePlace sectorSize)) (used + bodySize) (trailerBytes k) ≡ savedImage (decode r .device) image used
 unfolding savedImage bodyBytes savedFrom
 entry-stored r image used k b e n =
-    let s = savedFrom (decode r .device) in
+    let s = savedFrom (chainForm image used) (decode r .device) in
     let head = form headSize (headFields s) in
-    ap (λ (m : List ℕ). sets (sets m (used + headSize) (part r tablePlace sectorSize)) (used + bodySize) (trailerBytes k)) (head-stored image used s)
-    ∙ ap (λ (m : List ℕ). sets m (used + bodySize) (trailerBytes k)) (sets-then head (part r tablePlace sectorSize) image used headSize (length-form headSize (headFields s)))
+    ap (λ (m : List ℕ). sets m (used + bodySize) (trailerBytes k)) (sets-then head (part r tablePlace sectorSize) image used headSize (length-form headSize (headFields s)))
     ∙ sets-then (head ++ part r tablePlace sectorSize) (trailerBytes k) image used bodySize (length-append head (part r tablePlace sectorSize) ∙ rw (length-form headSize (headFields s), half))
     ∙ (λ j. sets image used ((head ++ sound-table r b e j) ++ trailerBytes (n j)))
   where

@@ -1,5 +1,7 @@
 // How a save writes one entry, from the record's bytes.
+use entry_timers::timers_in;
 use image::TAG;
+use image::chain_form;
 use image::previous_place;
 use layout::BODY;
 use layout::BODY_U32;
@@ -11,15 +13,15 @@ use layout::field;
 use layout::table;
 ghost use mathlib.Core.Path.{_≡_};
 ghost use mathlib.Core.Bool.{true};
-ghost use Prim.Native.Nat.{_+_, _*_, _/_, _≤_, _<_};
+ghost use Prim.Native.Nat.{ℕ, _+_, _*_, _/_, _%_, _≤_, _<_};
 ghost use lib.ListN.{length};
 ghost use lib.Seq.{sets};
 ghost use Rattle.wire.specs.Numbers.{get};
 ghost use Rattle.wire.specs.Choice.{bit};
 ghost use Rattle.wire.specs.Parts.{zeros};
-ghost use Rattle.wire.specs.Layout.{stores, placed};
-ghost use Rattle.model.specs.Sizes.{trailerSize, entrySize, entryLimit};
-ghost use Rattle.model.specs.Image.{savedFrom, headSize, sizesOf, featuresOf, trailerBytes, savedImage};
+ghost use Rattle.wire.specs.Layout.{stores, placed, form};
+ghost use Rattle.model.specs.Sizes.{bodySize, trailerSize, entrySize, entryLimit};
+ghost use Rattle.model.specs.Image.{savedFrom, headSize, sizesOf, featuresOf, timerFields, headFields, trailerBytes, savedImage};
 ghost use Rattle.store.specs.Areas.{recordSize};
 ghost use Rattle.store.specs.Record.{flagOf, decode};
 ghost use Rattle.store.specs.Sound.{sound};
@@ -59,7 +61,7 @@ fn options(device: &[u8]) -> u8
 // Clears the head of a body at `at`, and writes N, V, the flag and the life maximum.
 fn put_sizes(image: &mut [u8], at: usize, device: &[u8])
     requires { ⌜ (at + headSize ≤ length (now image)) × (length (now device) ≡ recordSize) ⌝ }
-    ensures { λ _. ⌜ now (image .exit) ≡ stores (placed at (sizesOf (savedFrom (decode (now (device .entry)) .device)))) (sets (now (image .entry)) at (zeros headSize)) ⌝ }
+    ensures { λ _. ⌜ ((entryForm : ℕ) → now (image .exit) ≡ stores (placed at (sizesOf (savedFrom entryForm (decode (now (device .entry)) .device)))) (sets (now (image .entry)) at (zeros headSize))) ⌝ }
 {
     runs::zero_part(image, at, entry::TABLE_AT);
     wire::put_u64(
@@ -87,7 +89,7 @@ fn put_sizes(image: &mut [u8], at: usize, device: &[u8])
 // Writes the features of a body at `at`, and their marks.
 fn put_features(image: &mut [u8], at: usize, device: &[u8])
     requires { ⌜ (at + headSize ≤ length (now image)) × (length (now device) ≡ recordSize) ⌝ }
-    ensures { λ _. ⌜ now (image .exit) ≡ stores (placed at (featuresOf (savedFrom (decode (now (device .entry)) .device)))) (now (image .entry)) ⌝ }
+    ensures { λ _. ⌜ ((entryForm : ℕ) → now (image .exit) ≡ stores (placed at (featuresOf (savedFrom entryForm (decode (now (device .entry)) .device)))) (now (image .entry))) ⌝ }
 {
     wire::put_u16(
         image,
@@ -107,14 +109,34 @@ fn put_features(image: &mut [u8], at: usize, device: &[u8])
     wire::put_u8(image, at + entry::OPTIONS_AT, options(device));
 }
 
-// "A save adds one entry behind the used length; other bytes stay."
+// Writes the timers of a body of this form at `at`.
+fn put_timers(image: &mut [u8], at: usize, entry_form: u32, device: &[u8])
+    requires { ⌜ (at + bodySize ≤ length (now image)) × (length (now device) ≡ recordSize) ⌝ }
+    ensures { λ _. ⌜ now (image .exit) ≡ stores (placed at (timerFields (savedFrom «entry_form» (decode (now (device .entry)) .device) .timers))) (now (image .entry)) ⌝ }
+{
+    let for_read = wire::u16_at(device, field::READ_TIMER_AT);
+    let for_write = wire::u16_at(device, field::WRITE_TIMER_AT);
+    entry_timers::put_timers(image, at, timers_in(entry_form, for_read, for_write));
+}
+
+// Writes the head of a body of this form at `at`.
+fn put_head(image: &mut [u8], at: usize, entry_form: u32, device: &[u8])
+    requires { ⌜ (at + bodySize ≤ length (now image)) × (length (now device) ≡ recordSize) ⌝ }
+    ensures { λ _. ⌜ now (image .exit) ≡ sets (now (image .entry)) at (form headSize (headFields (savedFrom «entry_form» (decode (now (device .entry)) .device)))) ⌝ }
+{
+    put_sizes(image, at, device);
+    put_features(image, at, device);
+    put_timers(image, at, entry_form, device);
+}
+
+// "A save adds one entry behind the used length; other bytes stay." W-204: "a save keeps the form of the chain it extends"
 pub fn put_entry(image: &mut [u8], used: usize, device: &[u8])
     requires { ⌜ sound (now device) ≡ true ⌝ }
-    requires room { ⌜ (used + entrySize ≤ length (now image)) × (used / entrySize < entryLimit) ⌝ }
+    requires room { ⌜ (used + entrySize ≤ length (now image)) × (used % entrySize ≡ 0) × (used / entrySize < entryLimit) ⌝ }
     ensures { λ _. ⌜ now (image .exit) ≡ savedImage (decode (now (device .entry)) .device) (now (image .entry)) used ⌝ }
 {
-    put_sizes(image, used, device);
-    put_features(image, used, device);
+    let entry_form = chain_form(image, used);
+    put_head(image, used, entry_form, device);
     runs::copy_part(image, used + entry::TABLE_AT, device, TABLE_AT, SECTOR);
     put_trailer(image, used + BODY, (used / ENTRY) as u32 + 1);
 }

@@ -1,7 +1,7 @@
-// The steps with a saved image: save and power-on.
+// What is done with a saved image: the steps save and power-on, and its conversion.
 ghost use mathlib.Core.Path.{_≡_};
 ghost use Rattle.model.specs.Disk.{diskOf};
-ghost use Rattle.store.specs.Entries.{saveBytes, powerOnBytes};
+ghost use Rattle.store.specs.Entries.{saveBytes, powerOnBytes, convertBytes};
 
 // "A save adds one entry behind the used length; other bytes stay."
 #[no_mangle]
@@ -27,4 +27,13 @@ pub extern "C" fn sct_power_on(
     ensures area { λ _. ⌜ now (area .exit) ≡ powerOnBytes (now (device .entry)) (now (area .entry)) (diskOf (now (disk .entry)) (now («check_area» .entry))) (now (image .entry)) used .privateArea ⌝ }
 {
     image_steps::power_on(device, area, disk, check_area, image, used)
+}
+
+// "Convert a whole image from form 1 to form 2 and back" (W-204)
+#[no_mangle]
+pub extern "C" fn sct_convert(image: &mut [u8], used: u64, form: u32) -> u32
+    ensures { λ n. ⌜ n ≡ convertBytes (now (image .entry)) used form .answer ⌝ }
+    ensures image { λ _. ⌜ now (image .exit) ≡ convertBytes (now (image .entry)) used form .image ⌝ }
+{
+    convert::convert(image, used, form)
 }

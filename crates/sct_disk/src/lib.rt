@@ -1,5 +1,5 @@
-// The eleven steps that the firmware calls: those of a port (ports.rt), work (works.rt), those of the owner (owner.rt, repairs.rt), and those with
-// a saved image (images.rt). The mailbox is a parameter of sct_take and sct_give only.
+// The twelve entries that the firmware calls: the steps of a port (ports.rt), work (works.rt), those of the owner (owner.rt, repairs.rt), and what is
+// done with a saved image (images.rt). The mailbox is a parameter of sct_take and sct_give only.
 mod images;
 mod owner;
 mod ports;
@@ -7,6 +7,7 @@ mod repairs;
 mod result;
 mod works;
 
+pub use images::sct_convert;
 pub use images::sct_power_on;
 pub use images::sct_save;
 pub use owner::sct_lock;

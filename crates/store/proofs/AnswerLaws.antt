@@ -57,7 +57,7 @@ pub entry-answer : (x : Step) (s : Store) → onStore x s .seen .answer ≡ firs
 entry-answer x s =
     answer-first x (firstFailed (storeChecks x s)) (onStore x s) s (doneStore x s) (doneSeen x s) (done-answer x s) (on-done x s) (on-refused x s)
 
--- THEOREM: every input, sound or not, has an answer from 0 to 8.
+-- THEOREM: every step answers every input, sound or not, with a number from 0 to 8.
 pub answer-range : (x : Step) (s : Store) → onStore x s .seen .answer ≤ 8
 answer-range x s = omega (arith, entry-answer x s, first-bound 8 (storeChecks x s) (entry-order x s .1))
 

@@ -16,3 +16,4 @@ pub mod SavedBack
 pub mod AfterPowerOn
 pub mod Lossless
 pub mod UntouchedLaws
+pub mod ConvertAnswers

@@ -1,7 +1,6 @@
 -- A save that answers 0, and then a power-on from that image on that disk, whatever was written to it in between.
 use mathlib.Core.Path.{_≡_, refl, sym, ap, _∙_}
 use Prim.Native.Nat.{ℕ, _+_}
-use native.Mathlib.Omega.{arith}
 use mathlib.Core.List.{List}
 use lib.ListN.{length}
 use borrow.Author.Tests.{eq-eqb}
@@ -10,7 +9,7 @@ use Rattle.wire.proofs.ChoiceLaws.{attempt-done, all-pass, pass-all}
 use Rattle.model.specs.Sizes.{entrySize}
 use Rattle.model.specs.Device.{Device}
 use Rattle.model.specs.Disk.{Disk, HasSize}
-use Rattle.model.specs.Image.{savedFrom, savedImage, restored}
+use Rattle.model.specs.Image.{Saved, savedFrom, chainForm, savedImage, restored}
 use Rattle.model.specs.Image.{saveChecks as savingChecks}
 use Rattle.model.specs.Step.{save, Seen, Outcome, answeredImage}
 use Rattle.model.specs.Valid.{Valid}
@@ -32,6 +31,10 @@ module _ (s : Store) (v : StoreValid s) (image : List ℕ) (used : ℕ) (saves :
   abbrev device : Device
   device = decode (s .recordArea) .device
 
+  -- what the save saves: an entry of the chain's form
+  abbrev entry : Saved
+  entry = savedFrom (chainForm image used) device
+
   abbrev saved : Seen
   saved = onStore (save image used) s .seen
 
@@ -52,7 +55,7 @@ module _ (s : Store) (v : StoreValid s) (image : List ℕ) (used : ℕ) (saves :
   sizes disk same = (same .0 ∙ v .disk .sectorsValid .size, same .1 ∙ v .disk .checkAreaValid .size)
 
   -- what is read back is what was saved
-  contents-back : (disk : Disk) → SameSize disk (s .disk) → poweredContents disk (saved .image) (saved .used) ≡ restoredContents (savedFrom device)
+  contents-back : (disk : Disk) → SameSize disk (s .disk) → poweredContents disk (saved .image) (saved .used) ≡ restoredContents entry
   contents-back disk same =
       let native = native-size (device .native) disk (sizes disk same) in
       ap restoredContents
@@ -69,16 +72,16 @@ module _ (s : Store) (v : StoreValid s) (image : List ℕ) (used : ℕ) (saves :
     pub power-on-saved : powerOnBytes r a disk (saved .image) (saved .used) .answer ≡ 0
     power-on-saved = power-on-answer r a disk (saved .image) (saved .used) ∙ on-passed
 
-    record-back : powerOnBytes r a disk (saved .image) (saved .used) .recordArea ≡ encode (restoredContents (savedFrom device))
+    record-back : powerOnBytes r a disk (saved .image) (saved .used) .recordArea ≡ encode (restoredContents entry)
     unfolding powerOnBytes
     record-back = rw (attempt-done (powerOnEntry r a disk (saved .image) (saved .used)) 0 (sym on-passed) refl) (ap encode (contents-back disk same))
 
     -- .. and "A saved image read back gives what was saved, as the power-on rules keep it".
-    pub saved-read-back : KeptRules (savedFrom device) (decode (powerOnBytes r a disk (saved .image) (saved .used) .recordArea) .device)
-    saved-read-back = rw (record-back, decode-encode restoredNow (valid-fits restoredNow restored-valid)) (kept-rules (savedFrom device))
+    pub saved-read-back : KeptRules entry (decode (powerOnBytes r a disk (saved .image) (saved .used) .recordArea) .device)
+    saved-read-back = rw (record-back, decode-encode restoredNow (valid-fits restoredNow restored-valid)) (kept-rules entry)
       where
         restoredNow : Contents
-        restoredNow = restoredContents (savedFrom device)
+        restoredNow = restoredContents entry
 
         restored-valid : ContentsValid restoredNow
-        restored-valid = record { device = power-on-valid (savedFrom device) (saved-fits device device-valid) (saved-ranged device device-valid); four = refl }
+        restored-valid = record { device = power-on-valid entry (saved-fits (chainForm image used) device device-valid) (saved-ranged (chainForm image used) device device-valid); four = refl }

@@ -1,29 +1,28 @@
 -- Soundness is document 01's list of clauses, neither weaker nor stricter, and a sound record is the record of exactly one device.
 use mathlib.Core.Path.{_≡_, refl, sym, ap, _∙_, subst}
-use mathlib.Core.Bool.{Bool, true, false, _&&_, _||_}
-use mathlib.Core.Logic.{inl, inr, _↔_}
+use mathlib.Core.Bool.{Bool, true, _&&_}
+use mathlib.Core.Logic.{_↔_}
 use Prim.Native.Nat.{ℕ, _+_, _^_, _<_}
 use native.Mathlib.Omega.{arith}
 use mathlib.Core.List.{List, [], _∷_}
 use lib.ListN.{length}
 use lib.Dec.{eqb, leb, ltb}
 use borrow.Author.Tests.{eqb-true, eqb-false, eq-eqb, ne-eqb, leb-true, le-leb, ltb-true, lt-ltb, not-true}
-use Rattle.wire.specs.Choice.{between}
 use Rattle.wire.specs.Bytes.{Bytes, same}
-use Rattle.wire.proofs.ChoiceLaws.{and-left, and-right, and-three, three-and, between-true, between-within}
+use Rattle.wire.proofs.ChoiceLaws.{and-left, and-right, and-three, three-and}
 use Rattle.wire.proofs.PartsLaws.{length-part}
 use Rattle.wire.proofs.BytesLaws.{bytes-part, get-fits, same-refl, same-true}
 use Rattle.model.specs.Sizes.{nativeLimit, historySize}
 use Rattle.model.specs.Device.{Fill, idle, running, Transfer, none, table, fillData, readLong, writeLong, Device}
-use Rattle.model.specs.Key.{statesNamed}
-use Rattle.model.proofs.StateLaws.{states-ranges, ranges-states}
+use Rattle.model.specs.Key.{timerNamed, statesNamed}
+use Rattle.model.proofs.StateLaws.{timer-range, range-timer, states-ranges, ranges-states}
 use Rattle.model.specs.Temperature.{tableHeadSize}
 use Rattle.model.specs.Fill.{runningCode}
-use Rattle.model.specs.Valid.{FillValid, TransferValid, PendingValid, pendingCount, pendingLimit, CodeValid, CommandValid, TimerValid, SettingsValid, Valid}
+use Rattle.model.specs.Valid.{FillValid, TransferValid, PendingValid, pendingCount, pendingLimit, CodeValid, CommandValid, SettingsValid, Valid}
 use Rattle.model.proofs.ValidClauses.{Clauses, Stored, valid-clauses, clauses-valid}
 use Rattle.store.specs.Areas.{recordSize, headSize}
 use Rattle.store.specs.Record.{Contents, encode, decode}
-use Rattle.store.specs.Sound.{fillSound, transferSound, pendingSound, commandSound, timerSound, settingsSound, deviceSound, sound}
+use Rattle.store.specs.Sound.{fillSound, transferSound, pendingSound, commandSound, settingsSound, deviceSound, sound}
 use Rattle.store.proofs.RecordLaws.{ContentsFit, ContentsValid, valid-fits, length-encode, bytes-encode, decode-encode}
 
 -- ---- the tests are the clauses
@@ -67,21 +66,6 @@ pending-tests : (visible : ℕ) (ts : List Transfer) → PendingValid visible ts
 pending-tests visible [] v = refl
 pending-tests visible (t ∷ ts) v = rw (transfer-tests visible t (v .0), pending-tests visible ts (v .1))
 
-timer-test : (n : ℕ) → TimerValid n → timerSound n ≡ true
-timer-test n (inl e) = rw e
-timer-test n (inr h) = go (eqb n 0)
-  where
-    go : (b : Bool) → (b || leb 10 n) ≡ true
-    go true = refl
-    go false = le-leb 10 n h
-
-timer-clause : (n : ℕ) → timerSound n ≡ true → TimerValid n
-timer-clause n e = go (eqb n 0) refl e
-  where
-    go : (b : Bool) → eqb n 0 ≡ b → (b || leb 10 n) ≡ true → TimerValid n
-    go true z e = inl (eqb-true n 0 z)
-    go false z e = inr (leb-true 10 n e)
-
 -- what the widths of the record's fields state about a device, in addition to the clauses
 pub record DeviceFits (d : Device) : Type 0 where
   pub commandWords : (d .command .code < 256 ^ 2) × (d .command .action < 256 ^ 2) × (d .command .function < 256 ^ 2)
@@ -124,11 +108,11 @@ module _ (d : Device) where
   unfolding settingsSound
   settings-clauses f e =
       let s = d .settings in
-      let w = and-three (timerSound (s .readTimer)) (timerSound (s .writeTimer)) (statesNamed (s .writeCache .state) (s .reordering .state) (s .logInterval .state)) e in
+      let w = and-three (timerNamed (s .readTimer)) (timerNamed (s .writeTimer)) (statesNamed (s .writeCache .state) (s .reordering .state) (s .logInterval .state)) e in
       let states = states-ranges (s .writeCache .state) (s .reordering .state) (s .logInterval .state) (w .2) in
       record {
-        readValid = timer-clause (s .readTimer) (w .0);
-        writeValid = timer-clause (s .writeTimer) (w .1);
+        readValid = timer-range (s .readTimer) (w .0);
+        writeValid = timer-range (s .writeTimer) (w .1);
         cacheValid = states .0;
         reorderingValid = states .1;
         intervalValid = states .2;
@@ -140,8 +124,8 @@ module _ (d : Device) where
   settings-tests v =
       let s = d .settings in
       rw (
-        timer-test (s .readTimer) (v .readValid),
-        timer-test (s .writeTimer) (v .writeValid),
+        range-timer (s .readTimer) (v .readValid),
+        range-timer (s .writeTimer) (v .writeValid),
       )
       (ranges-states (s .writeCache .state) (s .reordering .state) (s .logInterval .state) (v .cacheValid) (v .reorderingValid) (v .intervalValid))
 

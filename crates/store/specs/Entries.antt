@@ -1,4 +1,4 @@
--- The eleven entries: what each answers, and every byte afterwards of the buffers that it may write. It only reads the other
+-- The twelve entries: what each answers, and every byte afterwards of the buffers that it may write. It only reads the other
 -- buffers. An entry whose checks fail answers with the number of the first that fails, and changes nothing.
 use mathlib.Core.Bool.{Bool, true, false, _&&_}
 use Prim.Native.Nat.{ℕ, _+_, _*_}
@@ -16,7 +16,8 @@ use Rattle.model.specs.Repair.{repairReport, repair}
 use Rattle.model.specs.Decide.{Writing, noWrite, oneSector, newFill, Decision, decide}
 use Rattle.model.specs.Perform.{volumeAfter, replyOf}
 use Rattle.model.specs.Step.{OwnerStep, lock, unlock, setVisible, sample, goodValue, ownerRule}
-use Rattle.model.specs.Image.{Saved, savedImage, restored, powerOn}
+use Rattle.model.specs.Image.{Saved, entries, savedImage, restored, powerOn}
+use Rattle.model.specs.Convert.{converted, convertChecks}
 use Rattle.model.specs.Image.{saveChecks as savingChecks, powerOnChecks as diskChecks}
 use Rattle.store.specs.Areas.{recordSize, slotPlace, fillPlace, privateSize}
 use Rattle.store.specs.Record.{Stage, empty, held, answered, isStage, Contents, encode, decode}
@@ -309,3 +310,21 @@ powerOnEntry r a disk image used =
 
 unfoldable pub powerOnBytes : Record → Area → Disk → Image → ℕ → PowerOnAfter
 powerOnBytes r a disk image used = attempt (powerOnEntry r a disk image used)
+
+-- ---- convert: image, used length, form asked for (W-204). It has no record, and is no step of the machine.
+
+pub record ConvertAfter : Type 0 where
+  pub answer : ℕ
+  pub image : Image
+
+-- "Convert a whole image from form 1 to form 2 and back"
+abbrev pub convertEntry : Image → ℕ → ℕ → Guarded ConvertAfter
+convertEntry image used entryForm =
+    record {
+      checks = convertChecks entryForm image used;
+      done = record { answer = done; image = converted entryForm image (entries used) };
+      refused = λ n. record { answer = n; image = image };
+    }
+
+unfoldable pub convertBytes : Image → ℕ → ℕ → ConvertAfter
+convertBytes image used entryForm = attempt (convertEntry image used entryForm)

@@ -1,4 +1,4 @@
--- A step on the bytes, built from the eleven entries and nothing else.
+-- A step on the bytes, built from the entries and nothing else: from all but convert, which is no step.
 use Prim.Native.Nat.{ℕ}
 use mathlib.Core.List.{List, []}
 use Rattle.model.specs.Step.{OwnerStep, lock, unlock, setVisible, sample, Step, take, serve, give, work, owner, repair, save, powerOn, Outcome, answerOnly, answeredMailbox, answeredImage}

@@ -1,5 +1,5 @@
 -- A record is sound if it is the record of values that meet document 01's clauses.
-use mathlib.Core.Bool.{Bool, true, false, not, _&&_, _||_}
+use mathlib.Core.Bool.{Bool, true, not, _&&_}
 use Prim.Native.Nat.{ℕ}
 use mathlib.Core.List.{List, [], _∷_}
 use lib.ListN.{length}
@@ -7,11 +7,11 @@ use lib.Dec.{eqb, leb, ltb}
 use Rattle.wire.specs.Bytes.{same}
 use Rattle.model.specs.Sizes.{nativeLimit, historySize}
 use Rattle.model.specs.Device.{Fill, idle, running, Transfer, none, table, fillData, readLong, writeLong, Command, Settings, Device}
-use Rattle.model.specs.Key.{statesNamed}
+use Rattle.model.specs.Key.{timerNamed, statesNamed}
 use Rattle.model.specs.Fill.{runningCode}
 use Rattle.model.specs.Valid.{pendingCount, pendingLimit}
 use Rattle.store.specs.Areas.{recordSize}
-use Rattle.store.specs.Record.{Contents, encode, decode}
+use Rattle.store.specs.Record.{encode, decode}
 use Rattle.store.specs.Areas.{Record}
 
 -- "if a fill runs, first ≤ next < end ≤ V"; "the stored code is FFFFh exactly while a fill runs"
@@ -38,15 +38,11 @@ commandSound visible c =
     && pendingSound visible (c .pending)
     && leb (pendingCount (c .pending)) (pendingLimit (c .fill))
 
--- "each timer is 0 or at least 10"
-abbrev pub timerSound : ℕ → Bool
-timerSound n = eqb n 0 || leb 10 n
-
--- "the interval is 1 or more"; "every .. feature state has one of its named values"
+-- "each timer is 0 or at least 10, the interval is 1 or more"; "every .. feature state has one of its named values"
 unfoldable pub settingsSound : Settings → Bool
 settingsSound s =
-    timerSound (s .readTimer)
-    && timerSound (s .writeTimer)
+    timerNamed (s .readTimer)
+    && timerNamed (s .writeTimer)
     && statesNamed (s .writeCache .state) (s .reordering .state) (s .logInterval .state)
 
 -- "1 ≤ V ≤ N ≤ 65,536"; "minutes counted are below it, the history index is at most 477"

@@ -5,7 +5,7 @@ use native.Mathlib.Nat.{suc-add, add-suc, zero-add, add-zero, mul-comm, mul-zero
 use native.Mathlib.Omega.{arith}
 use mathlib.Core.List.{List, [], _∷_, _++_, append-assoc, append-nil}
 use lib.ListN.{length, getD, set, take, drop, length-append, length-take, length-drop, length-replicate, length-set, replicate-append-replicate}
-use lib.Seq.{take-nil, take-at, drop-at, length-take-le, take-all, drop-set-lt, take-set-le, take-set-lt, drop-set-add, take-take, drop-drop, getD-take, getD-drop, sets, sets-eq, length-sets, take-append-le, drop-append-le, drop-append-add}
+use lib.Seq.{take-nil, take-at, drop-at, length-take-le, take-all, drop-set-lt, take-set-le, take-set-lt, drop-set-add, take-take, drop-drop, getD-take, getD-drop, ext-getD, sets, sets-eq, length-sets, take-append-le, drop-append-le, drop-append-add}
 use Rattle.wire.specs.Numbers.{le, get, put}
 use Rattle.wire.specs.Parts.{part, zeros, padded, repeated}
 use Rattle.wire.proofs.NumbersLaws.{get-agree, get-put, length-le}
@@ -30,6 +30,13 @@ getD-zeros (suc n) (suc i) = getD-zeros n i
 
 pub getD-part : (l : List ℕ) (b n i : ℕ) → i < n → getD (part l b n) i 0 ≡ getD l (b + i) 0
 getD-part l b n i h = getD-take n (drop b l) i 0 h ∙ getD-drop b l i 0
+
+-- the same bytes give the same part
+pub part-agree : (s t : List ℕ) (b n : ℕ) → length s ≡ length t → ((i : ℕ) → b ≤ i → i < b + n → getD s i 0 ≡ getD t i 0) → part s b n ≡ part t b n
+part-agree s t b n e f =
+    ext-getD 0 (part s b n) (part t b n) (rw (length-take n (drop b s), length-drop b s, length-take n (drop b t), length-drop b t, e)) (λ i h.
+    let within : i < n = omega (arith, rw (length-take, length-drop) at h) in
+    getD-part s b n i within ∙ f (b + i) (omega arith) (omega arith) ∙ sym (getD-part t b n i within))
 
 -- ---- a part after a run of stores elsewhere, and in the same place
 

@@ -1,20 +1,21 @@
--- Stores inside a run that was stored before: the same as changing the run first and then storing it.
+-- Stores inside a run that was stored before: the same as changing the run first and then storing it. Stores at a place, in the part of a run from there on.
 use mathlib.Core.Path.{_≡_, refl, sym, ap, _∙_}
-use mathlib.Core.Bool.{Bool, true}
+use mathlib.Core.Bool.{true}
+use mathlib.Core.Logic.{_⊎_, inl, inr}
 use Prim.Native.Nat.{ℕ, zero, suc, _+_, _≤_, _<_}
 use native.Mathlib.Nat.{add-zero, add-suc, suc-add}
 use native.Mathlib.Omega.{arith}
 use mathlib.Core.List.{List, [], _∷_, _++_}
-use lib.ListN.{length, set, length-set}
+use lib.ListN.{length, getD, set, length-set}
 use lib.Seq.{sets, set-set, set-comm}
 use lib.Dec.{leb}
 use Rattle.wire.specs.Numbers.{le, put}
-use Rattle.wire.specs.Parts.{zeros}
+use Rattle.wire.specs.Parts.{part, zeros}
 use Rattle.wire.specs.Layout.{Field, stores, placed, form, ordered}
 use borrow.Author.Tests.{leb-true}
 use Rattle.wire.proofs.ChoiceLaws.{and-left, and-right}
-use Rattle.wire.proofs.NumbersLaws.{length-le, length-put}
-use Rattle.wire.proofs.PartsLaws.{length-zeros, sets-append, sets-whole}
+use Rattle.wire.proofs.NumbersLaws.{getD-sets-before, getD-sets-after, length-le, length-put}
+use Rattle.wire.proofs.PartsLaws.{length-zeros, put-part, sets-append, sets-whole}
 use Rattle.wire.proofs.LayoutLaws.{ordered-end, stores-append}
 
 set-sets-before : (xs l : List ℕ) (at i a : ℕ) → i < at → set (sets l at xs) i a ≡ sets (set l i a) at xs
@@ -55,6 +56,39 @@ stores-within (f ∷ fs) from n at l xs o h =
     let fits = ordered-end fs (f .0 + f .1) n o′ in
     ap (stores (placed at fs)) (put-within (f .1) (f .2) xs l at (f .0) (omega arith))
     ∙ stores-within fs (f .0 + f .1) n at l (put (f .1) xs (f .0) (f .2)) o′ (rw (length-put (f .1) xs (f .0) (f .2)) h)
+
+-- stores at a place change the same bytes in the run and in the part of it from that place ..
+pub part-stores : (fs : List Field) (from n at : ℕ) (l : List ℕ) → ordered from n fs ≡ true → part (stores (placed at fs) l) at n ≡ stores fs (part l at n)
+part-stores [] from n at l o = refl
+part-stores (f ∷ fs) from n at l o =
+    let o′ = and-right (leb from (f .0)) (ordered (f .0 + f .1) n fs) o in
+    let fits = ordered-end fs (f .0 + f .1) n o′ in
+    part-stores fs (f .0 + f .1) n at (put (f .1) l (at + f .0) (f .2)) o′
+    ∙ ap (stores fs) (put-part (f .1) (f .2) l at n (f .0) (omega arith))
+
+-- .. and no byte before the first field or after the last
+pub stores-apart : (fs : List Field) (from n at : ℕ) (l : List ℕ) (i : ℕ) → ordered from n fs ≡ true → (i < at + from) ⊎ (at + n ≤ i)
+    → getD (stores (placed at fs) l) i 0 ≡ getD l i 0
+stores-apart [] from n at l i o h = refl
+stores-apart (f ∷ fs) from n at l i o h =
+    stores-apart fs (f .0 + f .1) n at (put (f .1) l (at + f .0) (f .2)) i o′ (behind h) ∙ first h
+  where
+    o′ : ordered (f .0 + f .1) n fs ≡ true
+    o′ = and-right (leb from (f .0)) (ordered (f .0 + f .1) n fs) o
+
+    begins : from ≤ f .0
+    begins = leb-true from (f .0) (and-left (leb from (f .0)) (ordered (f .0 + f .1) n fs) o)
+
+    fits : f .0 + f .1 ≤ n
+    fits = ordered-end fs (f .0 + f .1) n o′
+
+    behind : (i < at + from) ⊎ (at + n ≤ i) → (i < at + (f .0 + f .1)) ⊎ (at + n ≤ i)
+    behind (inl p) = inl (omega (arith, begins))
+    behind (inr p) = inr p
+
+    first : (i < at + from) ⊎ (at + n ≤ i) → getD (put (f .1) l (at + f .0) (f .2)) i 0 ≡ getD l i 0
+    first (inl p) = unfold put in getD-sets-before (le (f .1) (f .2)) l (at + f .0) i (omega (arith, begins))
+    first (inr p) = unfold put in getD-sets-after (le (f .1) (f .2)) l (at + f .0) i (rw (length-le (f .1) (f .2)) (omega (arith, fits)))
 
 -- a run stored, and another after it
 pub sets-then : (xs ys l : List ℕ) (at n : ℕ) → length xs ≡ n → sets (sets l at xs) (at + n) ys ≡ sets l at (xs ++ ys)

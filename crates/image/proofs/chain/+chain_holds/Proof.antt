@@ -16,7 +16,7 @@ use Rattle.image.proofs.chain.+chain_holds.{statement}
 use Rattle.image.proofs.chain.+chain_holds.Tie.{close}
 
 abbrev μ-chain-holds : Measures 2 chain-holds-kinds.ps ℕ
-μ-chain-holds κs a = a .1 .1 .1 .0
+μ-chain-holds κs a = a .1 .1 .1 .1 .0
 
 abbrev chain-holds-at : ℕ → In 2 chain-holds-kinds.ps
 chain-holds-at t =

@@ -17,13 +17,14 @@ returns-3 c = readable-empty _ _ (c .if3 .taken)
 
 returns-4 : tie.Need-returns-4
 returns-4 c =
-    let at-native-at = c .before .before in
+    let at-form-at = c .before .before in
+    let at-native-at = at-form-at .before in
     let at-if3 = at-native-at .before in
     let at-if2 = at-if3 .before in
     let at-if1 = at-if2 .before in
     let some = at-if3 .if3 .left in
     readable-chain _ _ (at-if1 .if1 .left) (at-if2 .if2 .left) (omega arith) _
-    (λ newest e. c .chain-holds .ensures newest (e ∙ sym (at-native-at .native-at .ensures)))
+    (λ newest e. c .chain-holds .ensures newest (e .0 ∙ sym (at-native-at .native-at .ensures), e .1 ∙ sym (at-form-at .form-at .ensures)))
 
 pub readable-spec : {M : Type 1} → statement M
 readable-spec =
@@ -32,6 +33,8 @@ readable-spec =
     returns
     returns-2
     returns-3
+    (λ c. search needs)
+    (λ c κs. search needs)
     (λ c. search needs)
     (λ c κs. search needs)
     (λ c. search needs)

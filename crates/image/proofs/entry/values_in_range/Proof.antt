@@ -7,7 +7,9 @@ use Rattle.image.proofs.entry.values_in_range.Tie as tie
 returns : tie.Need-returns
 unfolding inRange savedAt
 returns c =
-    let at-u16-at4 = c .before in
+    let at-states-named = c .before in
+    let at-timers-at = at-states-named .before in
+    let at-u16-at4 = at-timers-at .before in
     let at-u16-at3 = at-u16-at4 .before in
     let at-u16-at2 = at-u16-at3 .before in
     let at-u16-at = at-u16-at2 .before in
@@ -16,11 +18,13 @@ returns c =
     rw (
       at-native-at .native-at .ensures,
       at-u64-at .u64-at .ensures,
-      c .states-named .ensures,
+      at-states-named .states-named .ensures,
       at-u16-at .u16-at .ensures,
       at-u16-at2 .u16-at2 .ensures,
       at-u16-at3 .u16-at3 .ensures,
       at-u16-at4 .u16-at4 .ensures,
+      c .timers-named .ensures,
+      at-timers-at .timers-at .ensures,
     )
 
 pub values-in-range-spec : {M : Type 1} → statement M
@@ -37,6 +41,8 @@ values-in-range-spec =
     (λ c. search needs)
     (λ c κs. search needs)
     (λ c. search needs)
+    (λ c κs. search needs)
+    (λ c κs. search needs)
     (λ c κs. search needs)
     (λ c κs. search needs)
     returns)

@@ -7,7 +7,7 @@ use Rattle.save.proofs.appending.put_features.Tie as tie
 
 returns : tie.Need-returns
 unfolding savedFrom decode
-returns c =
+returns c entryForm =
     let at-put-u8 = c .before .before in
     let at-options = at-put-u8 .before in
     let at-put-u163 = at-options .before .before .before .before in

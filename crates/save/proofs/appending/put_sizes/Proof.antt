@@ -7,7 +7,7 @@ use Rattle.save.proofs.appending.put_sizes.Tie as tie
 
 returns : tie.Need-returns
 unfolding savedFrom decode
-returns c =
+returns c entryForm =
     let at-put-u82 = c .before .before in
     let at-u8-at = at-put-u82 .before in
     let at-put-u8 = at-u8-at .before .before .before .before in

@@ -1,0 +1,2 @@
+-- Laws of a conversion's checks.
+pub mod ConvertingLaws

@@ -1,0 +1,2 @@
+-- What the enum of saved timers means.
+pub mod TimersMeaning
