@@ -1,4 +1,4 @@
-// The chain of entries, from the last trailer back.
+// The chain of entries, from the last trailer back, and the form that a save keeps.
 use crate::entry::entry_holds;
 use crate::entry::form_at;
 use crate::entry::native_at;

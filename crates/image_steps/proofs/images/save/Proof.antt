@@ -21,7 +21,7 @@ put-entry-requires c κs =
     let at-save-refusal = at-if1 .before in
     let entry = at-save-refusal .before .before .before .before in
     let ok = save-passed (entry .args .device .now) (entry .args .image .now) (entry .args .used) (at-save-refusal .save-refusal .ensures) (at-if1 .if1 .left) in
-    (ok .isSound, (omega (arith, ok .room), ok .whole, omega (arith, ok .number)))
+    (ok .isSound, (omega (arith, ok .room), omega (arith, ok .whole), omega (arith, ok .number)))
 
 returns-2 : tie.Need-returns-2
 unfolding saveBytes
