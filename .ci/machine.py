@@ -1,4 +1,5 @@
-"""What the checks in this directory read of a built archive: its functions as instructions with their operands."""
+"""What the checks in this directory read of a built archive: its sections, its functions as instructions with their operands, and
+how an instruction follows another."""
 import os
 import re
 import subprocess
@@ -8,6 +9,9 @@ from sources import Fault
 
 SIZES = {"BYTE": 1, "WORD": 2, "DWORD": 4, "QWORD": 8, "XMMWORD": 16}
 LETTERS = {"rax": "a", "rbx": "b", "rcx": "c", "rdx": "d"}
+
+NOTHING = re.compile(r"nop|endbr64|xchg ax,ax")
+JUMP = re.compile(r"j(?!r?cxz|ecxz)\w+")
 
 
 def register_parts():
@@ -43,7 +47,7 @@ class Memory(NamedTuple):
 
 
 class Target(NamedTuple):
-    symbol: str         # a function or a section, "" for the section of the jump or call
+    symbol: str         # a function or a section, "" for the section of the instruction
     at: int             # the distance from it
 
 
@@ -53,6 +57,7 @@ class Instruction(NamedTuple):
     name: str
     operands: list
     target: Target      # of a jump or call, else None
+    constant: Target    # whose address a lea gets from the linker, else None
     after: int          # the address of the next one
 
 
@@ -60,6 +65,17 @@ class Routine(NamedTuple):
     name: str
     section: str
     code: dict          # address to Instruction, in order
+
+
+class Section(NamedTuple):
+    name: str
+    size: int
+    flags: set          # objdump's words, such as ALLOC and READONLY
+
+
+class Relocation(NamedTuple):
+    kind: str
+    to: Target
 
 
 def output(*words):
@@ -108,13 +124,16 @@ def operand(text):
     return memory(SIZES.get(match[1], 0), match[2])
 
 
+def linked(line):
+    """What the linker fills in at the end of an instruction, which counts from 4 bytes before the next one; or None."""
+    match = re.search(r"R_X86_64_\w+\t(\S+?)([-+]0x[0-9a-f]+)?$", line)
+    return Target(match[1], int(match[2] or "0", 16) + 4) if match else None
+
+
 def target(line, rest):
-    """Where a jump or call goes. A place that the linker fills in counts from 4 bytes before the next instruction."""
+    """Where a jump or call goes."""
     to = re.fullmatch(r"([0-9a-f]+) <.*>", rest)
-    linked = re.search(r"R_X86_64_\w+\t(\S+?)([-+]0x[0-9a-f]+)?$", line)
-    if to and linked:
-        return Target(linked[1], int(linked[2] or "0", 16) + 4)
-    return Target("", int(to[1], 16)) if to else None
+    return (linked(line) or Target("", int(to[1], 16))) if to else None
 
 
 def instruction(line):
@@ -122,23 +141,26 @@ def instruction(line):
     match = re.fullmatch(r"\s*([0-9a-f]+):\t([^\t#]*?)\s*(?:#[^\t]*)?(?:\t.*)?", line)
     if match is None:
         return None
-    words = re.sub(r"^(?:(?:data16|cs) )+(?=nop)", "", " ".join(match[2].split()))
+    words = re.sub(r"^(?:(?:data16|cs) )+(?=nop)|^notrack (?=jmp)", "", " ".join(match[2].split()))
     name, _, rest = words.partition(" ")
     goes = target(line, rest)
     operands = [operand(part) for part in re.split(r",(?![^\[]*\])", rest)] if rest and not goes else []
-    return Instruction(int(match[1], 16), words, name, operands, goes, -1)
+    constant = linked(line) if name == "lea" and "[rip" in rest else None
+    return Instruction(int(match[1], 16), words, name, operands, goes, constant, -1)
 
 
 def routines(archive):
     """The functions of an archive, by name. It has one member, so that a section's name means one section."""
     found, section, routine = {}, "", None
-    lines = output("objdump", "-drw", "--no-show-raw-insn", "-M", "intel", archive)
+    lines = output("objdump", "-drwz", "--no-show-raw-insn", "-M", "intel", archive)
     if sum("file format" in line for line in lines) != 1:
         raise Fault(f"{archive} has not one member")
     for line in lines:
         if head := re.fullmatch(r"Disassembly of section (.*):", line):
             section = head[1]
         elif label := re.fullmatch(r"[0-9a-f]+ <(.*)>:", line):
+            if label[1] in found:
+                raise Fault(f"{archive} has two functions {label[1]}")
             routine = found[label[1]] = Routine(label[1], section, {})
         elif routine and (one := instruction(line)):
             routine.code[one.at] = one
@@ -150,3 +172,45 @@ def with_ends(routine):
     places = [*routine.code, -1]
     code = {at: routine.code[at]._replace(after=after) for at, after in zip(places, places[1:])}
     return routine._replace(code=code)
+
+
+def routine_at(code, section, place):
+    """The routine that a jump or call in this section goes to, or None where no routine begins there."""
+    for routine in code.values():
+        named = (routine.name, 0) == (place.symbol, place.at)
+        placed = (routine.section, next(iter(routine.code))) == (place.symbol or section, place.at)
+        if named or placed:
+            return routine
+    return None
+
+
+def spread(first, state, step, joined):
+    """Follows the flow from the address `first` until nothing new comes up. A step gives the state after the instruction at
+    an address and the addresses that may come next; what two ways bring to one address is joined."""
+    states, todo = {first: state}, [first]
+    while todo:
+        at = todo.pop()
+        after, places = step(at, states[at])
+        for place in places:
+            known = states.get(place)
+            states[place] = joined(known, after) if known is not None else after
+            if states[place] != known:
+                todo.append(place)
+
+
+def sections(archive):
+    """The sections of an archive."""
+    lines = output("objdump", "-hw", archive)
+    found = [re.fullmatch(r"\s*\d+ (\S+) +([0-9a-f]+) +\S+ +\S+ +\S+ +\S+ *(.*)", line) for line in lines]
+    return [Section(one[1], int(one[2], 16), set(one[3].split(", "))) for one in found if one]
+
+
+def relocations(archive):
+    """What the linker fills in, by section and place."""
+    found, section = {}, ""
+    for line in output("objdump", "-rw", archive):
+        if head := re.fullmatch(r"RELOCATION RECORDS FOR \[(.*)\]:", line):
+            section = found.setdefault(head[1], {})
+        elif match := re.fullmatch(r"([0-9a-f]+) (R_\w+) +(\S+?)([-+]0x[0-9a-f]+)?", line):
+            section[int(match[1], 16)] = Relocation(match[2], Target(match[3], int(match[4] or "0", 16)))
+    return found

@@ -36,10 +36,11 @@ class Function(NamedTuple):
 
 
 def run(check):
-    """Runs a check, which gives its one line or raises a Fault."""
+    """Runs a check, which gives its last line, or None where it has printed all, or raises a Fault."""
     name = Path(sys.argv[0]).name
     try:
-        print(f"{name}: {check()}")
+        if words := check():
+            print(f"{name}: {words}")
     except Fault as fault:
         sys.exit(f"{name}: {fault}")
     except OSError as error:

@@ -262,7 +262,15 @@ static void any_command(struct random *r, uint8_t *mailbox)
     mailbox[R_COMMAND] = once_in(r, 3) ? (uint8_t)random64(r) : PICK(r, commands);
 }
 
-/* Random bytes where no rule reads: they must not matter. */
+/* A write of E0h: B0h with Features D6h, or 3Fh. */
+static bool is_key(const uint8_t *mailbox)
+{
+    uint8_t command = mailbox[R_COMMAND];
+
+    return mailbox[R_LOW] == 0xE0 && (command == 0x3F || (command == 0xB0 && mailbox[R_FEATURES] == 0xD6));
+}
+
+/* Random bytes where no rule reads: they must not matter. W-205: the whole sector of a status read is such bytes. */
 static void dress(struct random *r, uint8_t *mailbox)
 {
     static const uint8_t ignored[3][7] = {
@@ -272,7 +280,7 @@ static void dress(struct random *r, uint8_t *mailbox)
     };
     uint8_t command = mailbox[R_COMMAND];
     int family = command == 0xB0 ? 0 : command == 0x2F || command == 0x3F ? 1 : 2;
-    unsigned from = R_SECTOR + (mailbox[R_LOW] == 0xE0 ? 24 : 0);
+    unsigned from = R_SECTOR + (is_key(mailbox) ? 24 : 0);
 
     if (once_in(r, 2))
         for (int i = 0; i < 7; i++)

@@ -1319,6 +1319,50 @@ static void old_images(void)
     }
 }
 
+/* ---- W-205: the status reply ------------------------------------------------------- */
+
+/* The status sector of a disk with a fill of sectors 5 to 13 at sector 8, at 30 degrees. */
+static void choose_status(uint8_t *sector)
+{
+    memset(sector, 0, SCT_SECTOR_BYTES);
+    put16(sector, 2);
+    put16(sector + 2, 1);
+    put16(sector + 4, 1);
+    sector[10] = 5;
+    put16(sector + 14, 0xFFFF);
+    put16(sector + 16, 2);
+    put16(sector + 18, 1);
+    put64(sector + 40, 8);
+    sector[200] = sector[202] = sector[204] = 30;
+}
+
+/* "The reply is the same whatever the slot's sector bytes held before." */
+static void status_over_anything(void)
+{
+    static const uint8_t held[] = { 0x00, 0xFF, 0xA5, 0x01 };
+    uint8_t sector[SCT_SECTOR_BYTES];
+
+    choose_status(sector);
+    power_on(0);
+    sample(30);
+    build_fill(mail, SMART, 1, 5, 9, 0x01020304);
+    expect_key("fill", 0);
+    expect("sectors written", work(3), 3);
+    for (size_t i = 0; i < 2 * sizeof held; i++) {
+        build_status(mail, i % 2 ? LOG_EXT : SMART);
+        memset(mail + R_SECTOR, held[i / 2], SCT_DATA_BYTES);
+        send((uint32_t)i % SCT_PORTS);
+        expect_reply("status", sector, sizeof sector);
+    }
+    expect("lock", code->lock(device, sizeof device), SCT_DONE);
+    build_status(mail, SMART);
+    memset(mail + R_SECTOR, 0xFF, SCT_DATA_BYTES);
+    send(0);
+    expect("status, locked", reply_value(mail), 0x0012);
+    for (size_t at = R_SECTOR; at < SCT_MAILBOX_BYTES; at++)
+        expect("its sectors", mail[at], 0);
+}
+
 static void run(const struct implementation *implementation)
 {
     code = implementation;
@@ -1365,6 +1409,7 @@ static void run(const struct implementation *implementation)
     convert_order();
     convert_nothing();
     old_images();
+    status_over_anything();
 }
 
 int main(void)

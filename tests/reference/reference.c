@@ -98,6 +98,7 @@
  *  70   convert judges the timers (9) before the image (6)
  *  71   only 8 bits of the form asked for are compared
  *  72   a timer of 0 is saved as 70
+ *  73   byte 12 of the status sector, which no rule names, is what the slot held
  */
 #ifdef PLANT
 #define PLANTED(n) (PLANT == (n))
@@ -1092,7 +1093,11 @@ static struct reply serve_key(struct service *s)
  */
 static void write_status(uint8_t *sector, const struct device *d)
 {
+    uint8_t held = sector[12];
+
     memset(sector, 0, SCT_SECTOR_BYTES);
+    if (PLANTED(73))
+        sector[12] = held;
     store16(sector, 2);
     store16(sector + 2, 1);
     store16(sector + 4, 1);

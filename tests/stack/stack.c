@@ -1,5 +1,6 @@
 /*
- * stack.c - how much stack each entry uses.
+ * stack.c - how much stack each entry uses, beside the bound that
+ * .ci/check-stack computes.
  *
  * A call is made on a separate stack, painted with one byte; the lowest byte
  * that has lost its paint shows the depth. The depth of the same call of an
@@ -7,16 +8,20 @@
  * with its return address. x86-64 only.
  *
  * Paint shows what is written, not what is merely reserved: a frame whose
- * lowest bytes are never written looks that much smaller.
+ * lowest bytes are never written looks that much smaller. What memset itself
+ * uses is measured too, and is not in the bound.
  *
  * Every call is made once before it is measured (an entry of a shared library
  * is bound at its first call) and then with two paints, so that a byte that
  * happens to equal the paint does not matter.
  *
- * Ends with 1 if an entry uses more than LIMIT bytes.
+ * Its argument is a file with the bounds, as check-stack --plain prints them.
+ * Ends with 1 if an entry uses more than its bound, or a bound is not below
+ * LIMIT; without an argument, if an entry uses LIMIT bytes or more.
  */
 #include <stdbool.h>
 #include <stdio.h>
+#include <stdlib.h>
 #include <string.h>
 
 #include "bytes.h"
@@ -33,9 +38,19 @@ enum { LIMIT = 1024, STACK_BYTES = 32768, SECTORS = 64, DAMAGED = 20, RANDOM_TRI
 
 enum entry { POWER_ON, TAKE, SERVE, GIVE, WORK, LOCK, UNLOCK, SET_VISIBLE, SAMPLE, REPAIR, SAVE, CONVERT, ENTRIES };
 
-static const char *const entry_name[ENTRIES] = {
-    "power_on", "take", "serve", "give", "work", "lock", "unlock", "set_visible", "sample", "repair", "save", "convert"
+/* What is measured: the entries, and apart from its others one request of serve. */
+enum { STATUS_READ = ENTRIES, ROWS };
+
+static const char *const row_name[ROWS] = {
+    "sct_power_on", "sct_take", "sct_serve", "sct_give", "sct_work", "sct_lock", "sct_unlock", "sct_set_visible",
+    "sct_sample", "sct_repair", "sct_save", "sct_convert", "status read"
 };
+
+static void fail(const char *words)
+{
+    fprintf(stderr, "stack: %s\n", words);
+    exit(1);
+}
 
 /* ---- The buffers, and one call ------------------------------------------------ */
 
@@ -252,10 +267,10 @@ static size_t depth_of(struct call *call)
     return one > two ? one : two;
 }
 
-static size_t deepest[ENTRIES], empty_depth[ENTRIES];
+static size_t deepest[ROWS], empty_depth[ENTRIES];
 
-/* Makes the call and notes its depth. Returns the answer. */
-static uint32_t measure(struct call *call)
+/* Makes the call and notes its depth in a row. Returns the answer. */
+static uint32_t measure_as(unsigned row, struct call *call)
 {
     size_t depth;
 
@@ -263,9 +278,14 @@ static uint32_t measure(struct call *call)
     make_call(call);
     restore_state();
     depth = depth_of(call) - empty_depth[call->entry] + 8;     /* 8: its return address */
-    if (depth > deepest[call->entry])
-        deepest[call->entry] = depth;
+    if (depth > deepest[row])
+        deepest[row] = depth;
     return call->answer;
+}
+
+static uint32_t measure(struct call *call)
+{
+    return measure_as(call->entry, call);
 }
 
 static struct call call_of(enum entry entry)
@@ -364,6 +384,30 @@ static void requests_in_every_state(void)
         measure_entry(SAMPLE);
 }
 
+/* In both command forms, locked and not, with a running fill and without. No step leaves a locked disk with a fill: the
+   lock is put into the record. */
+static void status_reads(void)
+{
+    for (unsigned n = 0; n < 8; n++) {
+        bool filling = n & 1, locked = n & 2;
+        struct call c = call_of(SERVE);
+        struct record_fields f;
+
+        measure_entry(POWER_ON);
+        if (filling) {
+            build_fill(mail, SMART, 1, 5, 9, 0x01020304);
+            exchange();
+        }
+        decode_record(&f, device);
+        f.locked = locked;
+        encode_record(device, &f);
+        build_status(mail, n & 4 ? LOG_EXT : SMART);
+        measure_entry(TAKE);
+        if (f.filling != filling || measure_as(STATUS_READ, &c) != SCT_DONE || area[R_STATUS] != (locked ? 0x51 : 0x50))
+            fail("a status read is not served as it should be");
+    }
+}
+
 /* The reports 2, 1 and 0, and a refusal. */
 static void repairs(void)
 {
@@ -436,19 +480,70 @@ static void random_states(void)
     }
 }
 
-int main(void)
+/* ---- The bounds ------------------------------------------------------------------------ */
+
+struct bound {
+    size_t frames, total;       /* total: with the red zone */
+};
+
+static void read_bounds(const char *path, struct bound *bounds)
+{
+    FILE *file = fopen(path, "r");
+    char name[32];
+    struct bound one;
+
+    if (file == NULL)
+        fail("the bounds cannot be read");
+    while (fscanf(file, "%31s %zu %zu %*u", name, &one.frames, &one.total) == 3)
+        for (enum entry e = 0; e < ENTRIES; e++)
+            if (strcmp(name, row_name[e]) == 0)
+                bounds[e] = one;
+    fclose(file);
+    for (enum entry e = 0; e < ENTRIES; e++)
+        if (bounds[e].total == 0)
+            fail("an entry has no bound");
+}
+
+static bool print_with_bounds(const struct bound *bounds)
 {
     bool fits = true;
 
+    printf("stack in bytes, return address included (limit %d)\n", LIMIT);
+    printf("  %-16s %8s %7s %14s\n", "entry", "measured", "frames", "with red zone");
+    for (unsigned row = 0; row < ROWS; row++) {
+        const struct bound *bound = &bounds[row == STATUS_READ ? SERVE : row];
+        bool right = deepest[row] <= bound->total && bound->total < LIMIT;
+
+        printf("  %-16s %8zu %7zu %14zu%s\n", row_name[row], deepest[row], bound->frames, bound->total,
+               right ? "" : "  TOO MUCH");
+        fits = fits && right;
+    }
+    return fits;
+}
+
+static bool print_alone(void)
+{
+    bool fits = true;
+
+    printf("stack in bytes, return address included (limit %d), measured without bounds\n", LIMIT);
+    for (unsigned row = 0; row < ROWS; row++) {
+        printf("  %-16s %8zu%s\n", row_name[row], deepest[row], deepest[row] < LIMIT ? "" : "  TOO MUCH");
+        fits = fits && deepest[row] < LIMIT;
+    }
+    return fits;
+}
+
+int main(int count, char **words)
+{
+    struct bound bounds[ENTRIES] = { { 0, 0 } };
+
+    if (count > 1)
+        read_bounds(words[1], bounds);
     measure_nothing();
     requests_in_every_state();
+    status_reads();
     repairs();
     chains();
     random_states();
-    printf("stack in bytes, return address included (limit %d)\n", LIMIT);
-    for (enum entry e = 0; e < ENTRIES; e++) {
-        printf("  sct_%-12s %6zu%s\n", entry_name[e], deepest[e], deepest[e] > LIMIT ? "  TOO MUCH" : "");
-        fits = fits && deepest[e] <= LIMIT;
-    }
-    return fits ? 0 : 1;
+    return (count > 1 ? print_with_bounds(bounds) : print_alone()) ? 0 : 1;
 }

@@ -1,31 +1,24 @@
--- How a data transfer, an access to one sector and a status read are decided: from the called functions' contracts to the model's decision.
-use mathlib.Core.Path.{_≡_, refl, sym, ap, _∙_}
-use mathlib.Core.Bool.{Bool, true, false}
-use mathlib.Core.List.{List, [], _∷_}
-use Prim.Native.Nat.{ℕ, zero, suc, _<_}
-use native.Mathlib.Omega.{arith}
-use lib.ListN.{length, getD}
-use Rattle.wire.specs.Choice.{if_then_else_, firstFailed, ifPassed}
+-- How a data transfer and an access to one sector are decided: from the called functions' contracts to the model's decision.
+use mathlib.Core.Path.{_≡_, sym, ap, _∙_}
+use mathlib.Core.Bool.{Bool}
+use mathlib.Core.List.{List}
+use Prim.Native.Nat.{ℕ}
+use lib.ListN.{getD}
+use Rattle.wire.specs.Choice.{firstFailed, ifPassed}
 use Rattle.wire.proofs.ChoiceLaws.{passed-not}
 use Rattle.model.specs.Device.{Transfer, none, Device}
 use Rattle.model.specs.Update.{withCode}
 use Rattle.model.specs.Registers.{Direction, Registers, dataOf, longDataOf, good, refused, refusedWith}
 use Rattle.model.specs.Fill.{interrupt}
-use Rattle.model.specs.Decide.{nothing, status, sending, Decision, decision, decideStatus, dataChecks, transferEffect, decideData, sectorChecks, sectorEffect, decideSector, pendingFor}
+use Rattle.model.specs.Decide.{nothing, Decision, decision, dataChecks, transferEffect, decideData, sectorChecks, sectorEffect, decideSector, pendingFor}
 use Rattle.model.proofs.RequestLaws.{interrupt-kept}
 use Rattle.record.specs.declared.device as device
-use Rattle.record.specs.DeviceMeaning.{asTransfer, asDevice, pendingOf}
+use Rattle.record.specs.DeviceMeaning.{asDevice, pendingOf}
 use Rattle.device_update.specs.Change.{Changed}
 use Rattle.decision.specs.declared.decision as code
 use Rattle.decision.specs.DecisionMeaning.{Says, Decided}
-use Rattle.device_update.proofs.ChangeLaws.{unchanged, changed-then}
+use Rattle.device_update.proofs.ChangeLaws.{changed-then}
 use Rattle.decision.proofs.DecidedLaws.{says-decided, decided-as, decided-then}
-
--- the transfer of one slot
-pub slot-pending : (slots : List device.Slot.Slot) (p : ℕ) (z : device.Slot.Slot) → p < length slots → asTransfer (getD slots p z .pending) ≡ getD (pendingOf slots) p none
-slot-pending [] p z h = absurd (omega arith)
-slot-pending (s ∷ slots) zero z h = refl
-slot-pending (s ∷ slots) (suc p) z h = slot-pending slots p z (omega arith)
 
 -- ---- the data transfer
 
@@ -96,21 +89,3 @@ module _ (d e : device.Device.Device) (dir : Direction) (count lba n : ℕ) (m :
       decided-as m (λ x. decision (interrupt x) (good 0 0) (sectorEffect dir lba (dataOf m))) accessRule d k
       (λ h. ap (λ (c : ℕ). access c (asDevice d h)) (sym z) ∙ allowed h)
       (decided-then m interrupt (λ x. decision x (good 0 0) (sectorEffect dir lba (dataOf m))) d e k stop done)
-
--- ---- the status read
-
-module _ (d : device.Device.Device) (m : List ℕ) (k : code.Decision.Decision) where
-  abbrev read : Bool → Device → Decision
-  read locked x = if locked then decision x (refusedWith 0x0012) nothing else decision x (good 0 0) (sending status)
-
-  pub status-refused : d .locked ≡ true → (q : Registers) → q ≡ refusedWith 0x0012 → Says d q (λ m. nothing) k → Decided m decideStatus d k
-  status-refused locked q registers says =
-      decided-as m (λ x. decision x (refusedWith 0x0012) nothing) decideStatus d k
-      (λ h. ap (λ (b : Bool). read b (asDevice d h)) (sym locked))
-      (says-decided m (λ x. x) (λ x. refusedWith 0x0012) (λ m. nothing) d d q k says (unchanged d) (λ h. registers))
-
-  pub status-sent : d .locked ≡ false → Says d (good 0 0) (λ m. sending status) k → Decided m decideStatus d k
-  status-sent unlocked says =
-      decided-as m (λ x. decision x (good 0 0) (sending status)) decideStatus d k
-      (λ h. ap (λ (b : Bool). read b (asDevice d h)) (sym unlocked))
-      (says-decided m (λ x. x) (λ x. good 0 0) (λ m. sending status) d d (good 0 0) k says (unchanged d) (λ h. refl))

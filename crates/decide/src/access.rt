@@ -10,7 +10,7 @@ use record::Direction;
 use record::Transfer;
 ghost use mathlib.Core.Path.{_≡_};
 ghost use mathlib.Core.List.{List};
-ghost use Prim.Native.Nat.{ℕ, _<_};
+ghost use Prim.Native.Nat.{ℕ};
 ghost use lib.ListN.{length, getD};
 ghost use Rattle.model.specs.Sizes.{portCount};
 ghost use Rattle.model.specs.Device.{none};
@@ -19,16 +19,6 @@ ghost use Rattle.model.specs.Fill.{interrupt};
 ghost use Rattle.model.specs.Decide.{decision, transferEffect, sectorEffect, pendingFor, decideData, decideSector};
 ghost use Rattle.record.specs.DeviceMeaning.{asTransfer, pendingOf, asDirection};
 ghost use Rattle.decision.specs.DecisionMeaning.{Decided};
-
-// What the port p has pending.
-fn pending_of(d: Device, p: usize) -> Transfer
-    requires { ⌜ (p < portCount) × (length (d .slots) ≡ portCount) ⌝ }
-    ensures { λ t. ⌜ asTransfer t ≡ getD (pendingOf (d .slots)) p none ⌝ }
-{
-    let slots = d.slots;
-    let s = slots[p];
-    s.pending
-}
 
 // A completed transfer: the table is sent, or a fill begins with the sector that came; W-202: a sector is sent or written with its check bytes.
 fn completed(d: Device, t: Transfer) -> Decision
@@ -43,12 +33,11 @@ fn completed(d: Device, t: Transfer) -> Decision
     }
 }
 
-// "E1h is judged": the code is stored, 0000h if the transfer is completed.
-pub fn decide_data(d: Device, p: usize, dir: Direction, count: u16) -> Decision
-    requires { ⌜ (p < portCount) × (length (d .slots) ≡ portCount) ⌝ }
-    ensures { λ k. ⌜ ((m : List ℕ) → Decided m (λ x. decideData (asDirection dir) count (pendingFor p x) (longDataOf m) (interrupt x)) d k) ⌝ }
+// "E1h is judged", for a port that has t pending: the code is stored, 0000h if the transfer is completed.
+pub fn decide_data(d: Device, t: Transfer, dir: Direction, count: u16) -> Decision
+    requires { ⌜ length (d .slots) ≡ portCount ⌝ }
+    ensures { λ k. ⌜ ((m : List ℕ) (p : ℕ) → asTransfer t ≡ getD (pendingOf (d .slots)) p none → Decided m (λ x. decideData (asDirection dir) count (pendingFor p x) (longDataOf m) (interrupt x)) d k) ⌝ }
 {
-    let t = pending_of(d, p);
     let code = request::data_code(d.locked, dir, count, t);
     let stopped = device_update::interrupt(d);
     let e = device_update::with_code(stopped, code);

@@ -1,6 +1,6 @@
 -- What a decision's struct means in the model. It holds only numbers: the slot's bytes m and the record's history are given separately.
 use mathlib.Core.Path.{_≡_}
-use mathlib.Core.Bool.{Bool, false}
+use mathlib.Core.Bool.{false}
 use mathlib.Core.List.{List}
 use Prim.Native.Nat.{ℕ}
 use lib.ListN.{length}
@@ -8,7 +8,7 @@ use Rattle.model.specs.Device.{Device}
 use Rattle.model.specs.Registers.{Registers, dataOf, longDataOf}
 use Rattle.model.specs.Disk.{checked}
 use Rattle.model.specs.Key.{patternSector}
-use Rattle.model.specs.Decide.{Writing, noWrite, oneSector, newFill, Sending, noData, status, temperatures, diskSector, storedSector, Effect, Decision, decision}
+use Rattle.model.specs.Decide.{Writing, noWrite, oneSector, newFill, Sending, noData, temperatures, diskSector, storedSector, Effect, Decision, decision}
 use Rattle.record.specs.declared.device as device
 use Rattle.record.specs.DeviceMeaning.{asDevice, historyAfter, stagesOf}
 use Rattle.reply.specs.ReplyMeaning.{asRegisters}
@@ -25,7 +25,6 @@ asWriting (writes.DataFill first end) m = newFill first end (dataOf m)
 
 abbrev pub asSending : code.Sending.Sending → Sending
 asSending sends.Nothing = noData
-asSending sends.Status = status
 asSending sends.Temperatures = temperatures
 asSending (sends.Sector lba) = diskSector lba
 asSending (sends.StoredSector lba) = storedSector lba

@@ -17,10 +17,10 @@ pub enum Writing {
     DataFill(u64, u64),
 }
 
-// What the reply is to carry: the status sector, the temperature table, the sector at an LBA, or that sector with its check bytes as stored.
+// What the reply is to carry: the temperature table, the sector at an LBA, or that sector with its check bytes as stored. A status read, whose
+// reply carries the status sector, is answered without a decision by value (status_read).
 pub enum Sending {
     Nothing,
-    Status,
     Temperatures,
     Sector(u64),
     StoredSector(u64),

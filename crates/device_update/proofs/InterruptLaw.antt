@@ -2,15 +2,15 @@
 use mathlib.Core.Path.{_≡_, refl, sym, ap, _∙_}
 use mathlib.Core.List.{List, [], _∷_}
 use Prim.Native.Nat.{ℕ}
-use native.Mathlib.Omega.{arith}
 use lib.ListN.{length, getD}
 use Rattle.model.specs.Device.{Fill, idle, running, none, Device}
 use Rattle.model.specs.Update.{withCommand, withPending}
 use Rattle.model.specs.Fill.{nothingPending, stopFill, interrupt}
 use Rattle.record.specs.declared.device as code
 use Rattle.record.specs.declared.device.Fill.the-variants.{Idle}
-use Rattle.record.specs.DeviceMeaning.{asStage, asTransfer, asFill, stagesOf, pendingOf, asDevice}
+use Rattle.record.specs.DeviceMeaning.{asFill, asDevice}
 use Rattle.device_update.specs.Change.{Changed, stoppedCode}
+use Rattle.device_update.proofs.FourSlots.{Given, four-given}
 
 -- an interrupted device, field by field
 interrupt-is : (d : Device) (f : Fill) → d .command .fill ≡ f
@@ -20,22 +20,6 @@ interrupt-is d idle e =
     ap (λ (f : Fill). withPending nothingPending (stopFill f d)) e
     ∙ ap (λ (f : Fill). withCommand (record { code = d .command .code; action = d .command .action; function = d .command .function; fill = f; pending = nothingPending }) d) e
 interrupt-is d (running first next end) e = rw e
-
--- a slot whose stage is unchanged and whose transfer is dropped
-abbrev pub Cleared : code.Slot.Slot → code.Slot.Slot → Type 0
-Cleared s r = (asStage (r .stage) ≡ asStage (s .stage)) × (asTransfer (r .pending) ≡ none)
-
--- the four slots of a struct, each cleared
-slots-cleared : (l : List code.Slot.Slot) (z a b e f : code.Slot.Slot) → length l ≡ 4
-    → Cleared (getD l 0 z) a → Cleared (getD l 1 z) b → Cleared (getD l 2 z) e → Cleared (getD l 3 z) f
-    → (stagesOf (a ∷ b ∷ e ∷ f ∷ []) ≡ stagesOf l) × (pendingOf (a ∷ b ∷ e ∷ f ∷ []) ≡ nothingPending)
-slots-cleared [] z a b e f h w x y v = absurd (omega arith)
-slots-cleared (s ∷ []) z a b e f h w x y v = absurd (omega arith)
-slots-cleared (s ∷ t ∷ []) z a b e f h w x y v = absurd (omega arith)
-slots-cleared (s ∷ t ∷ u ∷ []) z a b e f h w x y v = absurd (omega arith)
-slots-cleared (s ∷ t ∷ u ∷ q ∷ []) z a b e f h w x y v =
-    (λ i. w .0 i ∷ x .0 i ∷ y .0 i ∷ v .0 i ∷ [], λ i. w .1 i ∷ x .1 i ∷ y .1 i ∷ v .1 i ∷ [])
-slots-cleared (s ∷ t ∷ u ∷ q ∷ o ∷ l) z a b e f h w x y v = absurd (omega arith)
 
 -- the struct that the code builds
 abbrev pub interruptedStruct : code.Device.Device → ℕ → List code.Slot.Slot → code.Device.Device
@@ -53,10 +37,10 @@ interruptedStruct d n slots =
 
 pub interrupted : (d : code.Device.Device) (n : ℕ) (z a b e f : code.Slot.Slot) → length (d .slots) ≡ 4
     → n ≡ stoppedCode (asFill (d .command .fill)) (d .command .code)
-    → Cleared (getD (d .slots) 0 z) a → Cleared (getD (d .slots) 1 z) b → Cleared (getD (d .slots) 2 z) e → Cleared (getD (d .slots) 3 z) f
+    → Given (getD (d .slots) 0 z) none a → Given (getD (d .slots) 1 z) none b → Given (getD (d .slots) 2 z) none e → Given (getD (d .slots) 3 z) none f
     → Changed interrupt d (interruptedStruct d n (a ∷ b ∷ e ∷ f ∷ []))
 interrupted d n z a b e f four code-is w x y v =
-    let s = slots-cleared (d .slots) z a b e f four w x y v in
+    let s = four-given (d .slots) z a b e f none none none none four w x y v in
     record {
       device = λ h.
           (λ i. withCommand (record { code = code-is i; action = d .command .action; function = d .command .function; fill = idle; pending = s .1 i }) (asDevice d h))

@@ -1,4 +1,4 @@
 -- Laws of the structs that the functions change, in reading order.
 pub mod ChangeLaws
-pub mod InterruptLaw
 pub mod FourSlots
+pub mod InterruptLaw

@@ -9,6 +9,7 @@ ghost use mathlib.Core.Path.{_≡_};
 ghost use mathlib.Core.Bool.{false};
 ghost use Prim.Native.Nat.{_<_};
 ghost use lib.ListN.{length, set};
+ghost use Rattle.wire.specs.Choice.{if_then_else_};
 ghost use Rattle.model.specs.Sizes.{portCount};
 ghost use Rattle.model.specs.Device.{none};
 ghost use Rattle.model.specs.Update.{withCode, withKey, withInitialized, withPending};
@@ -145,16 +146,29 @@ pub fn with_flag_cleared(d: Device) -> Device
     written
 }
 
-// The device with a transfer pending for port p.
+// The slot with a new pending transfer, if it is the one that is meant.
+fn given(s: Slot, meant: bool, t: Transfer) -> Slot
+    ensures { λ r. ⌜ (asStage (r .stage) ≡ asStage (s .stage)) × (asTransfer (r .pending) ≡ (if meant then asTransfer t else asTransfer (s .pending))) ⌝ }
+{
+    if meant {
+        let stage = s.stage;
+        return Slot { stage, pending: t };
+    }
+    s
+}
+
+// The device with a transfer pending for port p. The slot is found by comparing: an array that a variable indexes is a copy on the stack.
 pub fn with_pending(d: Device, p: usize, t: Transfer) -> Device
     requires { ⌜ (p < portCount) × (length (d .slots) ≡ portCount) ⌝ }
     ensures { λ r. ⌜ Changed (λ x. withPending (set (x .command .pending) p (asTransfer t)) x) d r ⌝ }
 {
+    let slots = d.slots;
+    let s0 = given(slots[0], p == 0, t);
+    let s1 = given(slots[1], p == 1, t);
+    let s2 = given(slots[2], p == 2, t);
+    let s3 = given(slots[3], p == 3, t);
+    let after = [s0, s1, s2, s3];
     let mut e = d;
-    let mut slots = d.slots;
-    let s = slots[p];
-    let stage = s.stage;
-    slots[p] = Slot { stage, pending: t };
-    e.slots = slots;
+    e.slots = after;
     e
 }

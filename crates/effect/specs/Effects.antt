@@ -36,7 +36,6 @@ WritesWithin disk (writes.DataFill first end) = Unit {0}
 
 abbrev pub SendsWithin : Disk → code.Sending.Sending → Type 0
 SendsWithin disk sends.Nothing = Unit {0}
-SendsWithin disk sends.Status = Unit {0}
 SendsWithin disk sends.Temperatures = Unit {0}
 SendsWithin disk (sends.Sector lba) = Within disk lba
 SendsWithin disk (sends.StoredSector lba) = Within disk lba

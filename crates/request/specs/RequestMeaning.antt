@@ -2,11 +2,15 @@
 use Rattle.model.specs.Registers.{Request, statusRead, keySector, dataTransfer, sectorAccess, other}
 use Rattle.record.specs.DeviceMeaning.{asDirection}
 use Rattle.request.specs.declared.request as request
-use Rattle.request.specs.declared.request.Request.the-variants.{Status, Key, Data, Sector, Other}
+use Rattle.request.specs.declared.request.Operation.the-variants.{Key, Data, Sector, Other}
+use Rattle.request.specs.declared.request.Request.the-variants.{Status, Operation}
+
+abbrev pub asOperation : request.Operation.Operation → Request
+asOperation Key = keySector
+asOperation (Data dir count) = dataTransfer (asDirection dir) count
+asOperation (Sector dir count lba) = sectorAccess (asDirection dir) count lba
+asOperation Other = other
 
 abbrev pub asRequest : request.Request.Request → Request
 asRequest Status = statusRead
-asRequest Key = keySector
-asRequest (Data dir count) = dataTransfer (asDirection dir) count
-asRequest (Sector dir count lba) = sectorAccess (asDirection dir) count lba
-asRequest Other = other
+asRequest (Operation o) = asOperation o

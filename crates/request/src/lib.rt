@@ -4,5 +4,6 @@ mod request;
 
 pub use access::data_code;
 pub use access::sector_error;
+pub use request::Operation;
 pub use request::Request;
 pub use request::request_of;

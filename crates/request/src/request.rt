@@ -13,13 +13,19 @@ ghost use Rattle.model.specs.Registers.{features, count8, count16, lbaLow, lbaM
 ghost use Rattle.record.specs.DeviceMeaning.{asDirection};
 ghost use Rattle.request.specs.RequestMeaning.{asRequest};
 
-// Data is E1h, with its sector count; Sector is 24h or 34h, with its sector count and its LBA. Other is "All else, and E0h with another count".
-pub enum Request {
-    Status,
+// A request that "first stops a running fill (code 0008h) and drops an owed transfer". Data is E1h, with its sector count; Sector is 24h or 34h,
+// with its sector count and its LBA. Other is "All else, and E0h with another count".
+pub enum Operation {
     Key,
     Data(Direction, u16),
     Sector(Direction, u16, u64),
     Other,
+}
+
+// "Every request but a well-formed status read" is an operation.
+pub enum Request {
+    Status,
+    Operation(Operation),
 }
 
 // "Write E0h: key sector. Read E0h: status."
@@ -28,7 +34,7 @@ fn control(dir: Direction) -> Request
 {
     match dir {
         Direction::Read => Request::Status,
-        Direction::Write => Request::Key,
+        Direction::Write => Request::Operation(Operation::Key),
     }
 }
 
@@ -40,12 +46,12 @@ fn log_page(dir: Direction, page: u8, count: u16) -> Request
         if count == 1 {
             return control(dir);
         }
-        return Request::Other;
+        return Request::Operation(Operation::Other);
     }
     if page == ata::SCT_DATA_LOG {
-        return Request::Data(dir, count);
+        return Request::Operation(Operation::Data(dir, count));
     }
-    Request::Other
+    Request::Operation(Operation::Other)
 }
 
 // "B0h, Features D5h (read log) or D6h (write log), LBA Mid 4Fh, High C2h": for registers that hold these bytes.
@@ -53,10 +59,10 @@ fn smart_page(feature: u8, count: u8, page: u8, mid: u8, high: u8) -> Request
     ensures { λ r. ⌜ ((m : List ℕ) → features m ≡ feature → count8 m ≡ count → lbaLow m ≡ page → lbaMid m ≡ mid → lbaHigh m ≡ high → asRequest r ≡ smartLog m) ⌝ }
 {
     if mid != ata::SMART_LBA_MID {
-        return Request::Other;
+        return Request::Operation(Operation::Other);
     }
     if high != ata::SMART_LBA_HIGH {
-        return Request::Other;
+        return Request::Operation(Operation::Other);
     }
     if feature == ata::SMART_READ_LOG {
         return log_page(Direction::Read, page, count as u16);
@@ -64,7 +70,7 @@ fn smart_page(feature: u8, count: u8, page: u8, mid: u8, high: u8) -> Request
     if feature == ata::SMART_WRITE_LOG {
         return log_page(Direction::Write, page, count as u16);
     }
-    Request::Other
+    Request::Operation(Operation::Other)
 }
 
 // "for B0h so are the previous bytes": only the current ones are read.
@@ -86,7 +92,7 @@ fn log_ext(dir: Direction, area: &[u8], at: usize) -> Request
     ensures { λ r. ⌜ asRequest r ≡ logExt (asDirection dir) (part (now (area .entry)) at mailboxSize) ⌝ }
 {
     if u16_at(area, at + ata::LBA_MID_AT) != 0 {
-        return Request::Other;
+        return Request::Operation(Operation::Other);
     }
     log_page(
         dir,
@@ -134,7 +140,7 @@ fn sector(dir: Direction, area: &[u8], at: usize) -> Request
 {
     let count = u16_at(area, at + ata::COUNT_AT);
     let lba = lba48(area, at);
-    Request::Sector(dir, count, lba)
+    Request::Operation(Operation::Sector(dir, count, lba))
 }
 
 // The request of the slot at `at`. "Input bytes 10 and 12 to 15 are ignored".
@@ -158,5 +164,5 @@ pub fn request_of(area: &[u8], at: usize) -> Request
     if command == ata::WRITE_SECTORS_EXT {
         return sector(Direction::Write, area, at);
     }
-    Request::Other
+    Request::Operation(Operation::Other)
 }

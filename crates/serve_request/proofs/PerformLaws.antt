@@ -27,7 +27,7 @@ use Rattle.store.specs.Record.{answered, encode}
 use Rattle.store.specs.Store.{slotBytes}
 use Rattle.store.specs.Entries.{withStage, withFillSector}
 use Rattle.record.specs.declared.device as device
-use Rattle.record.specs.DeviceMeaning.{asDevice, asContents, stagesOf, historyOf, historyAfter}
+use Rattle.record.specs.DeviceMeaning.{asDevice, asContents, stagesOf, historyAfter}
 use Rattle.reply.specs.ReplyMeaning.{asRegisters}
 use Rattle.device_update.specs.Change.{Changed}
 use Rattle.decision.specs.declared.decision as code
@@ -35,7 +35,7 @@ use Rattle.decision.specs.declared.decision.Sending.the-variants as sends
 use Rattle.decision.specs.DecisionMeaning.{asWriting, asSending, asDecision}
 use Rattle.effect.specs.Effects.{deviceAfter, diskAfter, SendsWithin}
 use Rattle.serve_request.specs.Served.{Served}
-use Rattle.store.proofs.RecordLaws.{encoded-size, encoded-table, encoded-history}
+use Rattle.store.proofs.RecordLaws.{encoded-size, encoded-table}
 
 -- ---- what is written
 
@@ -70,7 +70,6 @@ disk-size (newFill first end sector) disk = (refl, refl)
 -- what can be sent from a disk can be sent from one of the same size
 pub sends-kept : (x : code.Sending.Sending) (after before : Disk) {disk : Disk} → after ≡ disk → SameSize disk before → SendsWithin before x → SendsWithin after x
 sends-kept sends.Nothing after before e same v = tt
-sends-kept sends.Status after before e same v = tt
 sends-kept sends.Temperatures after before e same v = tt
 sends-kept (sends.Sector lba) after before e same v = rw e (omega (arith, same .0, v .0), omega (arith, same .1, v .1))
 sends-kept (sends.StoredSector lba) after before e same v = rw e (omega (arith, same .0, v .0), omega (arith, same .1, v .1))
@@ -100,15 +99,9 @@ reply-size q (storedSector lba) d disk h =
 
 -- ---- a decision
 
--- the record, once it is written, has its size and the table that is to be sent
-pub record-ready : (p : ℕ) (e : device.Device.Device) (h r : List ℕ) → length h ≡ historySize → r ≡ encode (withStage p answered (asContents e h))
-    → (length r ≡ recordSize) × (part r headSize sectorSize ≡ temperatureTable (asDevice e (historyOf r)))
-record-ready p e h r whole er =
-    let c = withStage p answered (asContents e h) in
-    let history : historyOf r ≡ h = ap historyOf er ∙ encoded-history c whole in (
-      ap length er ∙ encoded-size c whole,
-      ap (λ (l : List ℕ). part l headSize sectorSize) er ∙ encoded-table c whole ∙ ap (λ (l : List ℕ). temperatureTable (asDevice e l)) (sym history),
-    )
+-- the record, once it is written, has its size
+pub record-size : (p : ℕ) (e : device.Device.Device) (h r : List ℕ) → length h ≡ historySize → r ≡ encode (withStage p answered (asContents e h)) → length r ≡ recordSize
+record-size p e h r whole er = ap length er ∙ encoded-size (withStage p answered (asContents e h)) whole
 
 -- k on record, private area and disk; e is the device after the write, and h is the history that the record then has
 module _ (p : ℕ) (k : code.Decision.Decision) (e : device.Device.Device) (g a : List ℕ) (disk : Disk) (port : p < portCount)
@@ -130,21 +123,22 @@ module _ (p : ℕ) (k : code.Decision.Decision) (e : device.Device.Device) (g a 
       written-parts w (asDevice (k .device) h) disk
       ∙ (λ i. record { device = sym (change m .device h) i; disk = diskAfter w disk })
 
-  -- THE LAW of a decision performed
+  -- THE LAW of a decision performed: the reply is right for the device whose temperature table the record holds
   pub performs : (r b : List ℕ) (newDisk : Disk) → r ≡ encode (withStage p answered (asContents e h)) → newDisk ≡ diskAfter w disk
-      → b ≡ sets (withFillSector w a) (slotPlace p) (replyWith (asRegisters (k .reply)) (asSending (k .sends)) (asDevice e (historyOf r)) (sectorRead (asSending (k .sends)) newDisk))
+      → ((d : Device) → part r headSize sectorSize ≡ temperatureTable d
+      → b ≡ sets (withFillSector w a) (slotPlace p) (replyWith (asRegisters (k .reply)) (asSending (k .sends)) d (sectorRead (asSending (k .sends)) newDisk)))
       → Served p decided (stagesOf (k .device .slots)) a disk r b newDisk
   performs r b newDisk er ed eb =
       let x = asSending (k .sends) in
       let q = asRegisters (k .reply) in
-      let history : historyOf r ≡ h = ap historyOf er ∙ encoded-history (withStage p answered (asContents e h)) whole in
+      let table = ap (λ (l : List ℕ). part l headSize sectorSize) er ∙ encoded-table (withStage p answered (asContents e h)) whole in
       record {
         recordBytes =
             er
             ∙ (λ i. encode (withStage p answered (record { device = sym parts i .device; stages = change m .stages i })));
         areaBytes =
-            eb
-            ∙ (λ i. sets (withFillSector w a) (slotPlace p) (replyWith q x (asDevice e (history i)) (sectorRead x (ed i))))
+            eb (asDevice e h) table
+            ∙ ap (λ (d : Disk). sets (withFillSector w a) (slotPlace p) (replyWith q x (asDevice e h) (sectorRead x d))) ed
             ∙ reply-last w a (replyWith q x (asDevice e h) (sectorRead x (diskAfter w disk))) p port (reply-size q x (asDevice e h) (diskAfter w disk) whole)
             ∙ ap (λ (v : Volume). withFillSector w (sets a (slotPlace p) (replyOf decided v))) (sym parts);
         diskBytes = ed ∙ ap (λ (v : Volume). v .disk) (sym parts);

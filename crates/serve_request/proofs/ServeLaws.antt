@@ -1,20 +1,29 @@
--- How a slot is served: the request is decided for the record's device, and performed.
-use mathlib.Core.Path.{_≡_, sym, ap, _∙_, subst}
-use mathlib.Core.List.{List}
+-- How a slot is served: a status read, and a request that is decided for the record's device and performed.
+use mathlib.Core.Path.{_≡_, refl, sym, ap, _∙_, subst}
+use mathlib.Core.Bool.{Bool, true, false}
+use mathlib.Core.List.{List, []}
 use Prim.Native.Nat.{ℕ, _≤_, _<_}
 use native.Mathlib.Omega.{arith}
+use lib.ListN.{getD}
+use lib.Seq.{sets}
+use Rattle.wire.specs.Choice.{if_then_else_}
 use Rattle.wire.specs.Bytes.{Bytes}
+use Rattle.model.specs.Sizes.{done}
 use Rattle.model.specs.Disk.{Disk, HasSize}
-use Rattle.model.specs.Device.{Device}
-use Rattle.model.specs.Registers.{Request, requestOf}
-use Rattle.model.specs.Decide.{Serving, Decision, decideRequest, decide}
+use Rattle.model.specs.Device.{Device, none}
+use Rattle.model.specs.Registers.{Request, statusRead, requestOf, good, refusedWith, replyBytes}
+use Rattle.model.specs.Status.{statusSector}
+use Rattle.model.specs.Decide.{Serving, Decision, decision, nothing, sending, status, decideRequest, decide}
 use Rattle.model.proofs.ValidRequest.{WritingValid, SendingValid, DecisionValid, request-valid}
-use Rattle.store.specs.Record.{Contents, decode}
+use Rattle.store.specs.Areas.{slotPlace}
+use Rattle.store.specs.Record.{Stage, answered, Contents, encode, decode, transferAt}
 use Rattle.store.specs.Store.{slotBytes}
+use Rattle.store.specs.Entries.{ServeAfter, withStage}
 use Rattle.store.proofs.SoundLaws.{sound-valid}
+use Rattle.store.proofs.StageLaws.{transfer-read}
 use Rattle.store.proofs.FollowLaws.{slot-sized}
 use Rattle.record.specs.declared.device as device
-use Rattle.record.specs.DeviceMeaning.{asContents, stagesOf, historyOf}
+use Rattle.record.specs.DeviceMeaning.{asContents, stagesOf, pendingOf, historyOf}
 use Rattle.record_write.proofs.FramedLaws.{sound-framed}
 use Rattle.device_update.proofs.ChangeLaws.{four-slots}
 use Rattle.decision.specs.declared.decision as code
@@ -22,6 +31,7 @@ use Rattle.decision.specs.declared.decision.Writing.the-variants as writes
 use Rattle.decision.specs.declared.decision.Sending.the-variants as sends
 use Rattle.decision.specs.DecisionMeaning.{asWriting, asSending, asDecision, Decided}
 use Rattle.effect.specs.Effects.{Within, WritesWithin, SendsWithin}
+use Rattle.status_read.specs.StatusReply.{statusReply}
 use Rattle.serve_request.specs.Served.{served, Served, Performable, Entered}
 
 -- "1 ≤ V"
@@ -30,6 +40,10 @@ entered-visible r a p d e b says =
     let v = sound-valid r b (e .soundRecord) .device .sizes .0 in
     let same = ap (λ (c : Contents). c .device .visible) says in
     omega (arith, v, same)
+
+-- what the port has pending, read from the record, is what its slot of the struct has
+pub entered-pending : (r : List ℕ) (p : ℕ) (d : device.Device.Device) → p < 4 → asContents d (historyOf r) ≡ decode r → transferAt r p ≡ getD (pendingOf (d .slots)) p none
+entered-pending r p d port says = sym (ap (λ (c : Contents). getD (c .device .command .pending) p none) says ∙ transfer-read r p port)
 
 -- sectors below V are within the visible disk
 within : (visible lba : ℕ) (disk : Disk) → HasSize visible disk → lba < visible → Within disk lba
@@ -44,7 +58,6 @@ writes-within d (writes.DataFill first end) m disk size v = tt
 
 sends-within : (visible : ℕ) (x : code.Sending.Sending) (disk : Disk) → HasSize visible disk → SendingValid visible (asSending x) → SendsWithin disk x
 sends-within visible sends.Nothing disk size v = tt
-sends-within visible sends.Status disk size v = tt
 sends-within visible sends.Temperatures disk size v = tt
 sends-within visible (sends.Sector lba) disk size v = within visible lba disk size v
 sends-within visible (sends.StoredSector lba) disk size v = within visible lba disk size v
@@ -76,15 +89,47 @@ module _ (r a : List ℕ) (disk : Disk) (p : ℕ) (d : device.Device.Device) (q 
         sendsWithin = sends-within (k .device .visible) (k .sends) disk sized (dv .effectValid .1);
       }
 
-  -- THE LAW of a slot served
-  pub serves : q ≡ requestOf m → (newRecord b : List ℕ) (newDisk : Disk) → Served p (asDecision k m (historyOf r)) (stagesOf (k .device .slots)) a disk newRecord b newDisk
-      → Served p (decide serving m (decode r .device)) (decode r .stages) a disk newRecord b newDisk
-  unfolding decide
-  serves asked newRecord b newDisk s =
-      let same : asDecision k m (historyOf r) ≡ decideRequest (requestOf m) serving m (decode r .device) = decided ∙ ap (λ (x : Request). decideRequest x serving m (decode r .device)) asked in
+  -- a request served as it was decided
+  pub serves : (newRecord b : List ℕ) (newDisk : Disk) → Served p (asDecision k m (historyOf r)) (stagesOf (k .device .slots)) a disk newRecord b newDisk
+      → Served p (decideRequest q serving m (decode r .device)) (decode r .stages) a disk newRecord b newDisk
+  serves newRecord b newDisk s =
       let stages : stagesOf (k .device .slots) ≡ decode r .stages = decides .stages ∙ ap (λ (c : Contents). c .stages) says in
       record {
-        recordBytes = s .recordBytes ∙ (λ i. served p (same i) (stages i) a disk .recordArea);
-        areaBytes = s .areaBytes ∙ (λ i. served p (same i) (stages i) a disk .privateArea);
-        diskBytes = s .diskBytes ∙ (λ i. served p (same i) (stages i) a disk .disk);
+        recordBytes = s .recordBytes ∙ (λ i. served p (decided i) (stages i) a disk .recordArea);
+        areaBytes = s .areaBytes ∙ (λ i. served p (decided i) (stages i) a disk .privateArea);
+        diskBytes = s .diskBytes ∙ (λ i. served p (decided i) (stages i) a disk .disk);
       }
+
+module _ (r a : List ℕ) (disk : Disk) (p : ℕ) where
+  -- the buffers after slot p was served as the request q
+  abbrev ServedAs : Request → List ℕ → List ℕ → Disk → Type 0
+  ServedAs q newRecord b newDisk = Served p (decideRequest q (record { port = p }) (slotBytes p a) (decode r .device)) (decode r .stages) a disk newRecord b newDisk
+
+  -- a status read, by the lock: the device and the disk stay
+  answers : (locked : Bool) (d : Device) (stages : List Stage)
+      → served p (if locked then decision d (refusedWith 0x0012) nothing else decision d (good 0 0) (sending status)) stages a disk
+      ≡ record {
+        answer = done;
+        recordArea = encode (withStage p answered (record { device = d; stages = stages }));
+        privateArea = sets a (slotPlace p) (if locked then replyBytes (refusedWith 0x0012) [] else replyBytes (good 0 0) (statusSector d));
+        disk = disk;
+      }
+  answers true d stages = refl
+  answers false d stages = refl
+
+  -- THE LAW of a status read served
+  pub status-served : (newRecord b : List ℕ) → newRecord ≡ encode (withStage p answered (decode r)) → b ≡ sets a (slotPlace p) (statusReply (decode r .device))
+      → ServedAs statusRead newRecord b disk
+  status-served newRecord b er eb =
+      let same = answers (decode r .device .locked) (decode r .device) (decode r .stages) in
+      record {
+        recordBytes = er ∙ sym (ap (λ (x : ServeAfter). x .recordArea) same);
+        areaBytes = eb ∙ sym (ap (λ (x : ServeAfter). x .privateArea) same);
+        diskBytes = sym (ap (λ (x : ServeAfter). x .disk) same);
+      }
+
+  -- THE LAW of a slot served: its request is the one that its registers encode
+  pub serves-request : (q : Request) (newRecord b : List ℕ) (newDisk : Disk) → q ≡ requestOf (slotBytes p a) → ServedAs q newRecord b newDisk
+      → Served p (decide (record { port = p }) (slotBytes p a) (decode r .device)) (decode r .stages) a disk newRecord b newDisk
+  unfolding decide
+  serves-request q newRecord b newDisk asked s = subst (λ (x : Request). ServedAs x newRecord b newDisk) asked s

@@ -29,5 +29,5 @@ pub fn perform(
     write(area, disk, check_area, p, writes);
     let d = device_after(decided, writes);
     finish(device, p, d, k.empties);
-    send(area, device, disk, check_area, p, d, reply, sends);
+    send(area, device, disk, check_area, p, reply, sends);
 }

@@ -16,4 +16,5 @@ pub mod SavedBack
 pub mod AfterPowerOn
 pub mod Lossless
 pub mod UntouchedLaws
+pub mod StatusReply
 pub mod ConvertAnswers

@@ -11,10 +11,10 @@ use Rattle.wire.specs.Layout.{Field, form}
 use Rattle.wire.proofs.LayoutLaws.{length-form}
 use Rattle.wire.proofs.PartsLaws.{put-front}
 use Rattle.wire.proofs.WithinLaws.{field-set}
-use Rattle.model.specs.Device.{Device}
+use Rattle.model.specs.Device.{none, Device}
 use Rattle.model.specs.Temperature.{tableBytes}
 use Rattle.store.specs.Areas.{headSize}
-use Rattle.store.specs.Record.{Stage, empty, Contents, stageNumber, slotAt, headFields, encode, decode, stageAt}
+use Rattle.store.specs.Record.{Stage, empty, Contents, stageNumber, slotAt, headFields, encode, decode, stageAt, transferAt}
 use Rattle.store.specs.Sound.{sound}
 use Rattle.store.specs.Entries.{withStage}
 use Rattle.store.proofs.RecordLaws.{four-back}
@@ -71,3 +71,12 @@ stage-read r (suc zero) h = refl
 stage-read r (suc (suc zero)) h = refl
 stage-read r (suc (suc (suc zero))) h = refl
 stage-read r (suc (suc (suc (suc p)))) h = absurd (omega arith)
+
+-- .. and what its port has pending
+pub transfer-read : (r : List ℕ) (p : ℕ) → p < 4 → getD (decode r .device .command .pending) p none ≡ transferAt r p
+unfolding decode
+transfer-read r zero h = refl
+transfer-read r (suc zero) h = refl
+transfer-read r (suc (suc zero)) h = refl
+transfer-read r (suc (suc (suc zero))) h = refl
+transfer-read r (suc (suc (suc (suc p)))) h = absurd (omega arith)

@@ -44,6 +44,19 @@ sets-within (v ∷ vs) xs l at i h =
     rw (set-within xs l at i v (omega arith), ← add-suc at i)
     (sets-within vs (set xs i v) l at (suc i) (rw length-set (omega arith)))
 
+-- one byte, and a run, that a run stored later covers
+set-over : (ys l : List ℕ) (at i a : ℕ) → i < length ys → sets (set l (at + i) a) at ys ≡ sets l at ys
+set-over [] l at i a h = absurd (omega arith)
+set-over (y ∷ ys) l at zero a h = rw (add-zero at) (ap (λ (m : List ℕ). sets m (suc at) ys) (set-set l at a y))
+set-over (y ∷ ys) l at (suc i) a h =
+    ap (λ (m : List ℕ). sets m (suc at) ys) (set-comm l (at + suc i) at a y (λ e. omega arith))
+    ∙ rw (add-suc at i, ← suc-add at i) (set-over ys (set l at y) (suc at) i a (omega arith))
+
+pub sets-over : (xs ys l : List ℕ) (at i : ℕ) → i + length xs ≤ length ys → sets (sets l (at + i) xs) at ys ≡ sets l at ys
+sets-over [] ys l at i h = refl
+sets-over (x ∷ xs) ys l at i h =
+    rw (← add-suc at i) (sets-over xs ys (set l (at + i) x) at (suc i) (omega arith)) ∙ set-over ys l at i x (omega arith)
+
 pub put-within : (k v : ℕ) (xs l : List ℕ) (at i : ℕ) → i + k ≤ length xs → put k (sets l at xs) (at + i) v ≡ sets l at (put k xs i v)
 unfolding put
 put-within k v xs l at i h = sets-within (le k v) xs l at i (rw (length-le k v) h)

@@ -12,10 +12,9 @@ returns c =
     let at-with-code = at-if1 .before in
     let at-interrupt = at-with-code .before in
     let at-data-code = at-interrupt .before in
-    let at-pending-of = at-data-code .before in
-    let entry = at-pending-of .before in
+    let entry = at-data-code .before in
     let a = entry .args in
-    λ m. data-refused (a .d) (at-interrupt .interrupt .result) (at-with-code .with-code .result) (a .p) (asDirection (a .dir)) (a .count) (at-data-code .data-code .result) (asTransfer (at-pending-of .pending-of .result)) m _ (at-pending-of .pending-of .ensures) (at-data-code .data-code .ensures) (at-interrupt .interrupt .ensures) (at-with-code .with-code .ensures) (at-if1 .if1 .taken) _ (at-refused-with .refused-with .ensures) (c .replied .ensures)
+    λ m p pends. data-refused (a .d) (at-interrupt .interrupt .result) (at-with-code .with-code .result) p (asDirection (a .dir)) (a .count) (at-data-code .data-code .result) (asTransfer (a .t)) m _ pends (at-data-code .data-code .ensures) (at-interrupt .interrupt .ensures) (at-with-code .with-code .ensures) (at-if1 .if1 .taken) _ (at-refused-with .refused-with .ensures) (c .replied .ensures)
 
 returns-2 : tie.Need-returns-2
 returns-2 c =
@@ -23,16 +22,14 @@ returns-2 c =
     let at-with-code = at-if1 .before in
     let at-interrupt = at-with-code .before in
     let at-data-code = at-interrupt .before in
-    let at-pending-of = at-data-code .before in
-    let entry = at-pending-of .before in
+    let entry = at-data-code .before in
     let a = entry .args in
-    λ m. data-completed (a .d) (at-interrupt .interrupt .result) (at-with-code .with-code .result) (a .p) (asDirection (a .dir)) (a .count) (at-data-code .data-code .result) (asTransfer (at-pending-of .pending-of .result)) m _ (at-pending-of .pending-of .ensures) (at-data-code .data-code .ensures) (at-interrupt .interrupt .ensures) (at-with-code .with-code .ensures) (at-if1 .if1 .left) (c .completed .ensures m)
+    λ m p pends. data-completed (a .d) (at-interrupt .interrupt .result) (at-with-code .with-code .result) p (asDirection (a .dir)) (a .count) (at-data-code .data-code .result) (asTransfer (a .t)) m _ pends (at-data-code .data-code .ensures) (at-interrupt .interrupt .ensures) (at-with-code .with-code .ensures) (at-if1 .if1 .left) (c .completed .ensures m)
 
 pub decide-data-spec : {M : Type 1} → statement M
 decide-data-spec =
     tie.close
     (tie.spec
-    (λ c κs. search needs)
     (λ c κs. search needs)
     (λ c κs. search needs)
     (λ c κs. search needs)

@@ -1,0 +1,2 @@
+-- The reply to a status read, by the lock.
+pub mod StatusLaws

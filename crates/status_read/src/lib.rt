@@ -1,0 +1,4 @@
+// A status read: its reply in the slot, and the slot's stage (status.rt).
+mod status;
+
+pub use status::serve_status;
