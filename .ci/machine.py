@@ -57,7 +57,7 @@ class Instruction(NamedTuple):
     name: str
     operands: list
     target: Target      # of a jump or call, else None
-    constant: Target    # whose address a lea gets from the linker, else None
+    constant: Target    # what the linker fills in, where it is no jump or call; else None
     after: int          # the address of the next one
 
 
@@ -126,7 +126,9 @@ def operand(text):
 
 def linked(line):
     """What the linker fills in at the end of an instruction, which counts from 4 bytes before the next one; or None."""
-    match = re.search(r"R_X86_64_\w+\t(\S+?)([-+]0x[0-9a-f]+)?$", line)
+    match = re.search(r"\t[0-9a-f]+: R_X86_64_\w+\t(.+?)([-+]0x[0-9a-f]+)?$", line)
+    if match is None and "R_X86_64" in line:
+        raise Fault(f"what is linked is not understood: {line.strip()}")
     return Target(match[1], int(match[2] or "0", 16) + 4) if match else None
 
 
@@ -145,8 +147,7 @@ def instruction(line):
     name, _, rest = words.partition(" ")
     goes = target(line, rest)
     operands = [operand(part) for part in re.split(r",(?![^\[]*\])", rest)] if rest and not goes else []
-    constant = linked(line) if name == "lea" and "[rip" in rest else None
-    return Instruction(int(match[1], 16), words, name, operands, goes, constant, -1)
+    return Instruction(int(match[1], 16), words, name, operands, goes, None if goes else linked(line), -1)
 
 
 def routines(archive):
@@ -200,9 +201,13 @@ def spread(first, state, step, joined):
 
 def sections(archive):
     """The sections of an archive."""
-    lines = output("objdump", "-hw", archive)
-    found = [re.fullmatch(r"\s*\d+ (\S+) +([0-9a-f]+) +\S+ +\S+ +\S+ +\S+ *(.*)", line) for line in lines]
-    return [Section(one[1], int(one[2], 16), set(one[3].split(", "))) for one in found if one]
+    found = []
+    for line in output("objdump", "-hw", archive):
+        if match := re.fullmatch(r"\s*\d+ (.+?) +([0-9a-f]{8,}) +[0-9a-f]+ +[0-9a-f]+ +[0-9a-f]+ +2\*\*\d+ *(.*)", line):
+            found.append(Section(match[1], int(match[2], 16), set(match[3].split(", "))))
+        elif re.match(r"\s*\d+ ", line):
+            raise Fault(f"a section is not understood: {line.strip()}")
+    return found
 
 
 def relocations(archive):
@@ -211,6 +216,8 @@ def relocations(archive):
     for line in output("objdump", "-rw", archive):
         if head := re.fullmatch(r"RELOCATION RECORDS FOR \[(.*)\]:", line):
             section = found.setdefault(head[1], {})
-        elif match := re.fullmatch(r"([0-9a-f]+) (R_\w+) +(\S+?)([-+]0x[0-9a-f]+)?", line):
+        elif match := re.fullmatch(r"([0-9a-f]+) (R_\w+) +(.+?)([-+]0x[0-9a-f]+)?", line):
             section[int(match[1], 16)] = Relocation(match[2], Target(match[3], int(match[4] or "0", 16)))
+        elif " R_" in line:
+            raise Fault(f"what is linked is not understood: {line.strip()}")
     return found

@@ -187,14 +187,15 @@ def printed(crate):
     return {quoted(form[1]): form for form in items(listed)}
 
 
-def reached(start):
-    """The functions that a function calls, and those that they call, with itself, by name, in the order in which they are met."""
+def reached(start, apart):
+    """The functions that a function calls, and those that they call, with itself, by name, in the order in which they are met; but for
+    the function `apart`, and what only that calls."""
     crate = start.partition("::")[0]
     forms = printed(crate)
     found, todo = {}, [start]
     while todo:
         name = todo.pop()
-        if name in found:
+        if name in found or name == apart:
             continue
         if name not in forms:
             raise Fault(f"rt mir {crate} has no function {name}")

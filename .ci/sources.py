@@ -36,7 +36,7 @@ class Function(NamedTuple):
 
 
 def run(check):
-    """Runs a check, which gives its last line, or None where it has printed all, or raises a Fault."""
+    """Runs a check. It gives its last line, or None where there is no more to print; or it raises a Fault."""
     name = Path(sys.argv[0]).name
     try:
         if words := check():

@@ -38,8 +38,10 @@
  *   - Calls follow the System V convention. Where the compiler has an attribute
  *     for it the prototypes carry it (SCT_CALL), so that a caller compiled with
  *     -mabi=ms calls rightly.
- *   - The stack pointer is a multiple of 16 at the call. A call needs less than
- *     1 KiB of stack (measured, not proved).
+ *   - The stack pointer is a multiple of 16 at the call. Below it a call needs
+ *     the larger of SCT_STACK_BYTES, and SCT_STACK_AT_MEMSET plus what memset
+ *     uses; return addresses and the red zone are counted. Both are computed
+ *     from the instructions; docs/performance.md has them by function.
  *   - The code uses the red zone, the 128 bytes below the stack pointer. So an
  *     interrupt or exception that is taken on the same stack during a call
  *     destroys the call: sct_take was seen to answer 4 on a sound record. Keep
@@ -87,6 +89,8 @@ extern "C" {
 #define SCT_NATIVE_LIMIT     65536u  /* sectors */
 #define SCT_FORM_1           1u      /* entries without timers */
 #define SCT_FORM_2           2u      /* with them */
+#define SCT_STACK_BYTES      632u    /* of stack, for any call */
+#define SCT_STACK_AT_MEMSET  488u    /* of these, in use where memset begins */
 
 /* ---- Answers ------------------------------------------------------------- */
 

@@ -41,6 +41,8 @@
  *  21: a jump that is not resolved
  *  22: a table that leads to leaf
  *  23: this is no function of the archive
+ *  24: not below 1024
+ *  25: an operand is not understood
  */
 #include <string.h>
 
@@ -96,6 +98,9 @@ WRONG_FUNCTION(by_table_or_not, BY_TABLE(".Lone") "test %esi, %esi\n je .Lgo\n m
 WRONG_FUNCTION(by_table_of_names, BY_TABLE(".Lnames") "jmp *%rcx\n"
                ".section .rodata\n .balign 4\n .Lnames: .long leaf - .Lnames\n");
 WRONG_FUNCTION(inside, "call .Linside\n ret\n .Linside: ret\n");
+FUNCTION("a name", "sub $0x400, %rsp\n add $0x400, %rsp\n ret\n");
+WRONG_FUNCTION(jumps_there, "jmp \"a name\"\n");
+WRONG_FUNCTION(takes_linked, "sub $leaf, %rsp\n add $leaf, %rsp\n ret\n");
 WRONG_FUNCTION(falls, "push %rbx\n pop %rbx\n");
 FUNCTION(behind, "ret\n");
 
@@ -215,5 +220,9 @@ uint32_t sct_lock(uint8_t *device, size_t device_length)
         by_table_of_names();
     if (WRONG == 23)
         inside();               /* no function begins there */
+    if (WRONG == 24)
+        jumps_there();          /* a function whose name has a blank */
+    if (WRONG == 25)
+        takes_linked();         /* as many bytes as the linker says */
     return SCT_DONE;
 }

@@ -1,3 +1,3 @@
--- Laws of how a request is decided: a key (DecideKey); a transfer and an access (AccessLaws).
+-- Laws of how an operation is decided: a key (DecideKey); a transfer and an access (AccessLaws).
 pub mod DecideKey
 pub mod AccessLaws

@@ -16,7 +16,7 @@ ghost use Rattle.reply.specs.ReplyMeaning.{asRegisters};
 ghost use Rattle.decision.specs.DecisionMeaning.{asSending};
 ghost use Rattle.effect.specs.Effects.{SendsWithin};
 
-// Leaves the reply in slot p, for a device whose temperature table is the record's second half.
+// Leaves the reply in slot p. The device is one whose temperature table is the record's second half: the record was written before.
 pub fn send(
     area: &mut [u8],
     device: &[u8],

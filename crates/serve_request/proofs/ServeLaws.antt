@@ -1,26 +1,23 @@
 -- How a slot is served: a status read, and a request that is decided for the record's device and performed.
-use mathlib.Core.Path.{_≡_, refl, sym, ap, _∙_, subst}
-use mathlib.Core.Bool.{Bool, true, false}
-use mathlib.Core.List.{List, []}
+use mathlib.Core.Path.{_≡_, sym, ap, _∙_, subst}
+use mathlib.Core.List.{List}
 use Prim.Native.Nat.{ℕ, _≤_, _<_}
 use native.Mathlib.Omega.{arith}
 use lib.ListN.{getD}
 use lib.Seq.{sets}
-use Rattle.wire.specs.Choice.{if_then_else_}
 use Rattle.wire.specs.Bytes.{Bytes}
-use Rattle.model.specs.Sizes.{done}
 use Rattle.model.specs.Disk.{Disk, HasSize}
 use Rattle.model.specs.Device.{Device, none}
-use Rattle.model.specs.Registers.{Request, statusRead, requestOf, good, refusedWith, replyBytes}
-use Rattle.model.specs.Status.{statusSector}
-use Rattle.model.specs.Decide.{Serving, Decision, decision, nothing, sending, status, decideRequest, decide}
+use Rattle.model.specs.Registers.{Request, statusRead, requestOf}
+use Rattle.model.specs.Decide.{Serving, Decision, decideRequest, decide}
 use Rattle.model.proofs.ValidRequest.{WritingValid, SendingValid, DecisionValid, request-valid}
 use Rattle.store.specs.Areas.{slotPlace}
-use Rattle.store.specs.Record.{Stage, answered, Contents, encode, decode, transferAt}
+use Rattle.store.specs.Record.{answered, Contents, encode, decode, transferAt}
 use Rattle.store.specs.Store.{slotBytes}
 use Rattle.store.specs.Entries.{ServeAfter, withStage}
 use Rattle.store.proofs.SoundLaws.{sound-valid}
 use Rattle.store.proofs.StageLaws.{transfer-read}
+use Rattle.store.proofs.StatusRead.{status-performed}
 use Rattle.store.proofs.FollowLaws.{slot-sized}
 use Rattle.record.specs.declared.device as device
 use Rattle.record.specs.DeviceMeaning.{asContents, stagesOf, pendingOf, historyOf}
@@ -32,6 +29,7 @@ use Rattle.decision.specs.declared.decision.Sending.the-variants as sends
 use Rattle.decision.specs.DecisionMeaning.{asWriting, asSending, asDecision, Decided}
 use Rattle.effect.specs.Effects.{Within, WritesWithin, SendsWithin}
 use Rattle.status_read.specs.StatusReply.{statusReply}
+use Rattle.status_read.proofs.StatusLaws.{reply-by-lock}
 use Rattle.serve_request.specs.Served.{served, Served, Performable, Entered}
 
 -- "1 ≤ V"
@@ -105,26 +103,17 @@ module _ (r a : List ℕ) (disk : Disk) (p : ℕ) where
   abbrev ServedAs : Request → List ℕ → List ℕ → Disk → Type 0
   ServedAs q newRecord b newDisk = Served p (decideRequest q (record { port = p }) (slotBytes p a) (decode r .device)) (decode r .stages) a disk newRecord b newDisk
 
-  -- a status read, by the lock: the device and the disk stay
-  answers : (locked : Bool) (d : Device) (stages : List Stage)
-      → served p (if locked then decision d (refusedWith 0x0012) nothing else decision d (good 0 0) (sending status)) stages a disk
-      ≡ record {
-        answer = done;
-        recordArea = encode (withStage p answered (record { device = d; stages = stages }));
-        privateArea = sets a (slotPlace p) (if locked then replyBytes (refusedWith 0x0012) [] else replyBytes (good 0 0) (statusSector d));
-        disk = disk;
-      }
-  answers true d stages = refl
-  answers false d stages = refl
-
   -- THE LAW of a status read served
   pub status-served : (newRecord b : List ℕ) → newRecord ≡ encode (withStage p answered (decode r)) → b ≡ sets a (slotPlace p) (statusReply (decode r .device))
       → ServedAs statusRead newRecord b disk
   status-served newRecord b er eb =
-      let same = answers (decode r .device .locked) (decode r .device) (decode r .stages) in
+      let same = status-performed (decode r .device .locked) p (decode r) a disk in
       record {
         recordBytes = er ∙ sym (ap (λ (x : ServeAfter). x .recordArea) same);
-        areaBytes = eb ∙ sym (ap (λ (x : ServeAfter). x .privateArea) same);
+        areaBytes =
+            eb
+            ∙ ap (sets a (slotPlace p)) (reply-by-lock (decode r .device))
+            ∙ sym (ap (λ (x : ServeAfter). x .privateArea) same);
         diskBytes = sym (ap (λ (x : ServeAfter). x .disk) same);
       }
 

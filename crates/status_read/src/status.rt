@@ -23,7 +23,7 @@ ghost use Rattle.record.specs.DeviceMeaning.{asDevice};
 ghost use Rattle.status_read.specs.StatusReply.{statusReply};
 
 // Writes the reply. "A refused status read under the lock answers 0012h and stores nothing."
-fn put_answer(area: &mut [u8], at: usize, d: Device)
+fn put_status_reply(area: &mut [u8], at: usize, d: Device)
     requires { ⌜ at + mailboxSize ≤ length (now area) ⌝ }
     ensures { λ _. ⌜ ((h : List ℕ) → now (area .exit) ≡ sets (now (area .entry)) at (statusReply (asDevice d h))) ⌝ }
 {
@@ -41,6 +41,6 @@ pub fn serve_status(device: &mut [u8], area: &mut [u8], p: usize)
     ensures area { λ _. ⌜ now (area .exit) ≡ sets (now (area .entry)) (slotPlace p) (statusReply (decode (now (device .entry)) .device)) ⌝ }
 {
     let d = record::decode(device);
-    put_answer(area, MAILBOX * p, d);
+    put_status_reply(area, MAILBOX * p, d);
     put_stage(device, p, Stage::Answered);
 }

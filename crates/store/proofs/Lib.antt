@@ -16,5 +16,5 @@ pub mod SavedBack
 pub mod AfterPowerOn
 pub mod Lossless
 pub mod UntouchedLaws
-pub mod StatusReply
+pub mod StatusRead
 pub mod ConvertAnswers

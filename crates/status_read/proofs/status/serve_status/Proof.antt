@@ -24,13 +24,13 @@ put-stage-requires c κs =
 returns : tie.Need-returns
 returns c =
     let at-put-stage = c .before .before in
-    let at-put-answer = at-put-stage .before .before .before .before in
-    let at-decode = at-put-answer .before .before in
+    let at-put-status-reply = at-put-stage .before .before .before .before in
+    let at-decode = at-put-status-reply .before .before in
     let entry = at-decode .before .before .before .before in
     let a = entry .args in
     let r = a .device .now in (
       at-put-stage .put-stage .ensures ∙ sound-stage r (a .p) answered (entry .pre .0) (entry .pre .2),
-      at-put-answer .put-answer .ensures (historyOf r)
+      at-put-status-reply .put-status-reply .ensures (historyOf r)
           ∙ ap (λ (x : Contents). sets (a .area .now) (slotPlace (a .p)) (statusReply (x .device))) (at-decode .decode .ensures),
     )
 

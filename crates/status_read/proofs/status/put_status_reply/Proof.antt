@@ -1,9 +1,9 @@
--- `status_read::status::put_answer` meets its contract.
+-- `status_read::status::put_status_reply` meets its contract.
 use Rattle.record.specs.DeviceMeaning.{asDevice}
 use Rattle.status_read.proofs.StatusLaws.{reply-locked, reply-unlocked}
 use borrow.Author.Needs.{needs}
-use Rattle.status_read.proofs.status.put_answer.Statement.{statement}
-use Rattle.status_read.proofs.status.put_answer.Tie as tie
+use Rattle.status_read.proofs.status.put_status_reply.Statement.{statement}
+use Rattle.status_read.proofs.status.put_status_reply.Tie as tie
 
 returns : tie.Need-returns
 returns c =
@@ -21,8 +21,8 @@ returns-2 c =
     let d = at-if1 .before .before .args .d in
     λ h. rw (reply-unlocked (asDevice d h) (at-if1 .if1 .left), ← at-good .good2 .ensures) (at-put-status .put-status .ensures h)
 
-pub put-answer-spec : {M : Type 1} → statement M
-put-answer-spec =
+pub put-status-reply-spec : {M : Type 1} → statement M
+put-status-reply-spec =
     tie.close
     (tie.spec
     (λ c κs. search needs)
