@@ -89,8 +89,8 @@ extern "C" {
 #define SCT_NATIVE_LIMIT     65536u  /* sectors */
 #define SCT_FORM_1           1u      /* entries without timers */
 #define SCT_FORM_2           2u      /* with them */
-#define SCT_STACK_BYTES      632u    /* of stack, for any call */
-#define SCT_STACK_AT_MEMSET  488u    /* of these, in use where memset begins */
+#define SCT_STACK_BYTES      648u    /* of stack, for any call */
+#define SCT_STACK_AT_MEMSET  504u    /* of these, in use where memset begins */
 
 /* ---- Answers ------------------------------------------------------------- */
 
@@ -124,6 +124,16 @@ uint32_t SCT_CALL sct_take(uint8_t *device, size_t device_length,
 /*
  * Carries out the request in the slot and leaves the reply there: held becomes
  * answered. A request that the disk refuses (Status 51h) is served: answer 0.
+ * If it is a key sector, LBA Mid of its reply (byte 6 of the mailbox) names the
+ * word of the key that was wrong:
+ *   0         the action
+ *   1         the function
+ *   2         what is selected: timer, feature, table; or Start, or a Long LBA
+ *   3         the value: a timer's or a feature's
+ *   4         the option
+ *   6         Count: Start is good, and Start + Count exceeds V
+ *   255       none: the disk is locked
+ * (docs/refused-keys.md, with the codes). Other refused requests have 0 there.
  * So is a sector read (24h) of a sector whose check bytes are not those of its
  * data: its reply has Error 40h and no data. Read Long sends the sector and its
  * check bytes as they are.

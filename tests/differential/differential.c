@@ -176,8 +176,9 @@ static bool run_sweeps(struct pair *pair, struct statistics *s, const struct opt
 {
     if (!o->sweeps || o->one_list)
         return true;
-    return sweep_lengths(pair, s) && sweep_chain(pair, s) && sweep_forms(pair, s) && sweep_addresses(pair, s) &&
-           sweep_flips(pair, s) && sweep_images(pair, s, o->thorough) && sweep_records(pair, s, o->thorough);
+    return sweep_keys(pair, s) && sweep_lengths(pair, s) && sweep_chain(pair, s) && sweep_forms(pair, s) &&
+           sweep_addresses(pair, s) && sweep_flips(pair, s) && sweep_images(pair, s, o->thorough) &&
+           sweep_records(pair, s, o->thorough);
 }
 
 /* ---- Options --------------------------------------------------------------------- */

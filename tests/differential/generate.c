@@ -206,6 +206,24 @@ static void other_key(struct random *r, uint8_t *mailbox)
     build_key(mailbox, form, words[0], words[1], words[2], words[3], words[4]);
 }
 
+static void any_key(struct random *r, const struct record_fields *f, uint8_t *mailbox)
+{
+    switch (below(r, 13)) {
+    case 0:
+    case 1:
+    case 2:
+    case 3:  any_fill(r, f, mailbox); break;
+    case 4:
+    case 5:  any_timer(r, mailbox); break;
+    case 6:
+    case 7:
+    case 8:  any_feature(r, mailbox); break;
+    case 9:  any_table(r, mailbox); break;
+    case 10: other_key(r, mailbox); break;
+    default: any_long(r, f, mailbox); break;
+    }
+}
+
 /* Mostly the right one. */
 static uint16_t any_transfer_count(struct random *r, uint16_t right)
 {
@@ -308,28 +326,16 @@ static void any_request(struct list *l, uint8_t *mailbox)
     case 1:
     case 2:  build_status(mailbox, any_form(r)); break;
     case 3:  any_count_of_e0(r, mailbox); break;
-    case 4:
+    case 4:  any_transfer(r, false, pending_count(&f), mailbox); break;
     case 5:
-    case 6:
-    case 7:  any_fill(r, &f, mailbox); break;
+    case 6:  any_transfer(r, true, pending_count(&f), mailbox); break;
+    case 7:
     case 8:
-    case 9:  any_timer(r, mailbox); break;
-    case 10:
-    case 11:
-    case 12: any_feature(r, mailbox); break;
-    case 13: any_table(r, mailbox); break;
-    case 14: other_key(r, mailbox); break;
-    case 15: any_transfer(r, false, pending_count(&f), mailbox); break;
-    case 16:
-    case 17: any_transfer(r, true, pending_count(&f), mailbox); break;
-    case 18:
-    case 19:
-    case 20:
-    case 21: any_sector(r, &f, mailbox); break;
-    case 22: any_command(r, mailbox); break;
-    case 23:
-    case 24: any_long(r, &f, mailbox); break;
-    default: random_bytes(r, mailbox, SCT_MAILBOX_BYTES); break;
+    case 9:
+    case 10: any_sector(r, &f, mailbox); break;
+    case 11: any_command(r, mailbox); break;
+    case 12: random_bytes(r, mailbox, SCT_MAILBOX_BYTES); break;
+    default: any_key(r, &f, mailbox); break;
     }
     dress(r, mailbox);
     if (once_in(r, 12))
@@ -781,6 +787,26 @@ static void plan_disturbance(struct list *l)
     }
 }
 
+/* A key with one or two odd words among the first five; then the status, which has its code. */
+static void plan_key(struct list *l)
+{
+    struct random *r = &l->random;
+    uint8_t mailbox[SCT_MAILBOX_BYTES];
+    struct record_fields f;
+    uint32_t port = free_port(l);
+
+    fields_now(l, &f);
+    any_key(r, &f, mailbox);
+    for (uint64_t i = between(r, 1, 2); i > 0; i--) {
+        uint8_t *word = mailbox + R_SECTOR + 2 * below(r, 5);
+
+        put16(word, odd_word(r));
+    }
+    dress(r, mailbox);
+    exchange(l, port, mailbox);
+    status_by(l, port + 1);
+}
+
 /* A fill by this function is asked for, on the port that is returned. */
 static uint32_t ask_fill(struct list *l, uint16_t function)
 {
@@ -999,6 +1025,7 @@ static const struct {
     { plan_new_record,  {  1,  0,  0,  1,  1,  1,  1, 12 } },
     { plan_edit_record, {  0,  0,  0,  0,  0,  0,  1,  6 } },
     { plan_spoilt,      {  0,  0,  0,  0,  0,  0,  0,  6 } },
+    { plan_key,         {  3,  1,  2,  1,  1,  2,  3,  3 } },
     { plan_fill,        {  4, 16,  3,  0,  1,  1,  2,  3 } },
     { plan_whole_fill,  {  2, 10,  1,  0,  1,  1,  1,  1 } },
     { plan_sector_fill, {  3,  4, 20,  0,  0,  1,  2,  3 } },

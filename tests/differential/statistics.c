@@ -17,6 +17,51 @@ static unsigned outcome_of_reply(const uint8_t *reply)
     return code < CODES ? code : PLAIN_REFUSAL;
 }
 
+enum { LOCKED = 0x0012 };
+
+/* The key table's refusals, each with the word that W-206 gives it. The lock refuses keys of every kind. */
+static const struct { const char *fault; enum request_kind kind; uint16_t code; uint8_t word; } key_rows[KEY_ROWS] = {
+    { "lock", K_OTHER_KEY, LOCKED, 255 },
+    { "action", K_OTHER_KEY, 0x0010, 0 },
+    { "function", K_LONG, 0x000A, 1 },
+    { "LBA", K_LONG, 0x0002, 2 },
+    { "function", K_FILL_PATTERN, 0x0001, 1 },
+    { "Start", K_FILL_PATTERN, 0x0002, 2 },
+    { "sum", K_FILL_PATTERN, 0x0002, 6 },
+    { "Start", K_FILL_SECTOR, 0x0002, 2 },
+    { "sum", K_FILL_SECTOR, 0x0002, 6 },
+    { "function", K_TIMER, 0x0004, 1 },
+    { "timer", K_TIMER, 0x0005, 2 },
+    { "value for reads", K_TIMER, 0x0006, 3 },
+    { "value for writes", K_TIMER, 0x0007, 3 },
+    { "function", K_FEATURE, 0x000C, 1 },
+    { "feature", K_FEATURE, 0x000D, 2 },
+    { "state", K_FEATURE, 0x000E, 3 },
+    { "option", K_FEATURE, 0x000F, 4 },
+    { "function", K_TABLE, 0x0001, 1 },
+    { "table", K_TABLE, 0x0011, 2 }
+};
+
+static bool is_refused_key(const struct outcome *outcome)
+{
+    return K_LONG <= outcome->kind && outcome->kind <= K_OTHER_KEY && outcome->reply[R_ERROR] != 0;
+}
+
+static bool row_has(unsigned row, const struct outcome *outcome)
+{
+    return (key_rows[row].kind == outcome->kind || key_rows[row].code == LOCKED) &&
+           key_rows[row].code == reply_value(outcome->reply) && key_rows[row].word == outcome->reply[R_MID];
+}
+
+static unsigned row_of_key(const struct outcome *outcome)
+{
+    unsigned row = 0;
+
+    while (row < KEY_ROWS && !row_has(row, outcome))
+        row++;
+    return row;
+}
+
 void statistics_add(struct statistics *s, const struct step *step, const struct outcome *outcome)
 {
     if (step->entry >= ENTRIES)
@@ -27,6 +72,8 @@ void statistics_add(struct statistics *s, const struct step *step, const struct 
     switch (step->entry) {
     case SERVE:
         s->requests[outcome->kind][outcome_of_reply(outcome->reply)]++;
+        if (is_refused_key(outcome))
+            s->refused_keys[row_of_key(outcome)]++;
         break;
     case WORK:
         s->sectors_written += outcome->report;
@@ -78,6 +125,15 @@ static void print_requests(const struct statistics *s)
     }
 }
 
+static void print_refused_keys(const struct statistics *s)
+{
+    printf("\nkeys refused (by row of the key table: code, and the word in LBA Mid)\n");
+    for (int i = 0; i < KEY_ROWS; i++)
+        printf("%-19s %-17s %04Xh %3u %9llu\n", key_rows[i].code == LOCKED ? "any key" : kind_name[key_rows[i].kind],
+               key_rows[i].fault, key_rows[i].code, key_rows[i].word, (unsigned long long)s->refused_keys[i]);
+    printf("%-47s %9llu\n", "with a code and word of no row", (unsigned long long)s->refused_keys[KEY_ROWS]);
+}
+
 void statistics_print(const struct statistics *s)
 {
     printf("lists %llu, steps %llu, steps of sweeps %llu\n", (unsigned long long)s->lists,
@@ -92,4 +148,5 @@ void statistics_print(const struct statistics *s)
            (unsigned long long)s->repairs[1], (unsigned long long)s->repairs[2]);
     print_answers(s);
     print_requests(s);
+    print_refused_keys(s);
 }

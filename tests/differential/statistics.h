@@ -4,12 +4,13 @@
 
 #include "pair.h"
 
-enum { ANSWERS = 10, REPORTS = 3, CODES = 0x13, OUTCOMES = CODES + 3 };
+enum { ANSWERS = 10, REPORTS = 3, CODES = 0x13, OUTCOMES = CODES + 3, KEY_ROWS = 19 };
 
 struct statistics {
     uint64_t lists, steps, sweep_steps;
     uint64_t answers[ENTRIES][ANSWERS + 1];     /* the last one: a number that is no answer */
     uint64_t requests[REQUEST_KINDS][OUTCOMES]; /* by code; then Error 10h and 40h; then good */
+    uint64_t refused_keys[KEY_ROWS + 1];        /* by row of the key table; the last one: a code and word of none */
     uint64_t repairs[REPORTS + 1];              /* by report; the last one: a number that is none */
     uint64_t fills_finished, sectors_written, images_restored, entries_saved;
 };

@@ -2,6 +2,7 @@
 
 #include <string.h>
 
+#include "bytes.h"
 #include "check.h"
 #include "layout.h"
 #include "request.h"
@@ -213,6 +214,72 @@ bool sweep_records(struct pair *pair, struct statistics *s, bool thorough)
                 if (!try_byte(pair, s, &start, offset, values[i]))
                     return false;
         }
+    }
+    return true;
+}
+
+/* ---- Keys --------------------------------------------------------------------- */
+
+/* The words that the key table judges, with right and wrong values. Start and LBA begin at word 2, Count at word 6. */
+static const struct { unsigned word, count; uint16_t values[8]; } key_words[] = {
+    { 0, 8, { 0, 1, 2, 3, 4, 5, 6, 0xFFFF } },
+    { 1, 6, { 0, 1, 2, 3, 4, 0x0101 } },
+    { 2, 8, { 0, 1, 2, 3, 4, VISIBLE - 1, VISIBLE, 0x0102 } },
+    { 3, 8, { 0, 1, 2, 3, 4, 9, 10, 0xFFFF } },
+    { 4, 4, { 0, 1, 2, 0x0101 } },
+    { 6, 3, { 0, 1, VISIBLE + 1 } }
+};
+
+enum { KEY_WORDS = sizeof key_words / sizeof key_words[0] };
+
+/* The mixture with this number: one value for each word. */
+static void mix_key(uint8_t *mailbox, enum form form, unsigned number)
+{
+    build_log(mailbox, form, true, 0xE0, 1);
+    for (unsigned i = 0; i < KEY_WORDS; i++) {
+        put16(mailbox + R_SECTOR + 2 * key_words[i].word, key_words[i].values[number % key_words[i].count]);
+        number /= key_words[i].count;
+    }
+}
+
+static unsigned key_mixtures(void)
+{
+    unsigned count = 1;
+
+    for (unsigned i = 0; i < KEY_WORDS; i++)
+        count *= key_words[i].count;
+    return count;
+}
+
+static bool try_key(struct pair *pair, struct statistics *s, const struct start *start, enum form form, unsigned number)
+{
+    struct step step = step_of(pair, SERVE);
+    uint8_t *key = pair->area + SCT_MAILBOX_BYTES * HELD_PORT + R_SECTOR;
+
+    go_to_start(pair, start);
+    mix_key(key - R_SECTOR, form, number);
+    if (sweep_step(pair, s, &step))
+        return true;
+    printf("  of a key with the words");
+    for (unsigned word = 0; word < 7; word++)
+        printf(" %Xh", get16(key + 2 * word));
+    printf("\n");
+    return false;
+}
+
+/* Every mixture of right and wrong words, on a free disk and on a locked one. */
+bool sweep_keys(struct pair *pair, struct statistics *s)
+{
+    static struct start start;
+    struct random r = random_for(1, 8);
+
+    for (int locked = 0; locked < 2; locked++) {
+        pair_reset(pair, &r, SECTORS, AT_END);
+        base_record(&r, pair->record, locked ? LOCKED : IDLE);
+        keep_start(&start, pair);
+        for (unsigned number = 0; number < key_mixtures(); number++)
+            if (!try_key(pair, s, &start, locked ? LOG_EXT : SMART, number))
+                return false;
     }
     return true;
 }

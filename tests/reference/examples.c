@@ -203,7 +203,7 @@ static void sector_fill_by_count(void)
     power_on(0);
     build_fill(mail, LOG_EXT, 2, 0, SECTORS + 1, 0);
     expect_key("sector fill, Count 65", 0x0002);
-    expect("LBA Mid, no sector is to follow", mail[R_MID], 0);
+    expect("LBA Mid, the sum is at fault", mail[R_MID], 6);
     build_fill(mail, LOG_EXT, 2, 0, SECTORS, 0);
     expect_key("sector fill, Count 64", 0);
     expect("LBA Mid, one sector is to follow", mail[R_MID], 1);
@@ -752,7 +752,7 @@ static void long_key_example(uint64_t visible, uint16_t function, uint64_t lba, 
     set_visible(visible);
     build_long(mail, LOG_EXT, function, lba);
     expect_key(what, wanted);
-    expect(what, mail[R_MID], wanted == 0 ? 2 : 0);
+    expect(what, mail[R_MID], wanted == 0x000A ? 1 : 2);    /* the function; the LBA, or two sectors are to follow */
     expect(what, stored_code(), wanted);
     expect(what, get16(status() + 16), 1);
     expect(what, get16(status() + 18), function);
@@ -1363,6 +1363,316 @@ static void status_over_anything(void)
         expect("its sectors", mail[at], 0);
 }
 
+/* ---- W-206: the word at fault ------------------------------------------------------ */
+
+/* Start and LBA are words 2 to 5, Count is words 6 to 9. */
+enum { KEY_WORDS = 10 };
+
+static void build_words(enum form form, const uint16_t *words)
+{
+    build_log(mail, form, true, 0xE0, 1);
+    for (unsigned i = 0; i < KEY_WORDS; i++)
+        put16(mail + R_SECTOR + 2 * i, words[i]);
+}
+
+static void describe_words(char *what, size_t size, const uint16_t *words)
+{
+    size_t used = (size_t)snprintf(what, size, "key");
+
+    for (unsigned i = 0; i < KEY_WORDS; i++)
+        used += (size_t)snprintf(what + used, size - used, " %Xh", words[i]);
+}
+
+/* The reply has Status 51h, this Error, code and LBA Mid, and 0 in every other byte. */
+static void expect_refused(const char *what, uint8_t error, uint16_t refusal, uint8_t mid)
+{
+    uint8_t wanted[SCT_MAILBOX_BYTES] = { 0 };
+
+    wanted[R_STATUS] = 0x51;
+    wanted[R_ERROR] = error;
+    wanted[R_COUNT] = (uint8_t)refusal;
+    wanted[R_LOW] = (uint8_t)(refusal >> 8);
+    wanted[R_MID] = mid;
+    expect(what, reply_value(mail), refusal);
+    expect(what, mail[R_MID], mid);
+    expect(what, memcmp(mail, wanted, sizeof mail) != 0, 0);
+}
+
+/* A key of these words is refused, in both forms; the code alone is stored. */
+static void expect_refused_key(const uint16_t *words, uint16_t refusal, uint8_t word)
+{
+    char what[96];
+
+    describe_words(what, sizeof what, words);
+    for (enum form form = SMART; form <= LOG_EXT; form++) {
+        power_on(0);
+        build_words(form, words);
+        send(0);
+        expect_refused(what, 0x04, refusal, word);
+        expect("stored code", stored_code(), refusal);
+        expect("action", get16(status() + 16), words[0]);
+        expect("function", get16(status() + 18), words[1]);
+    }
+}
+
+/*
+ * "the word that caused it: 0 action, 1 function, 2 to 4 those words, 2 for
+ * Start or a Long LBA, 6 where the sum alone is at fault, 255 for the lock."
+ *
+ * Each row of the key table fails alone: with `right` in the word that is named
+ * the key is accepted.
+ */
+static const struct { uint16_t words[KEY_WORDS]; uint16_t refusal; uint8_t word; uint16_t right; } key_rows[] = {
+    /* action */
+    { { 0, 1, 2 }, 0x0010, 0, 5 },
+    { { 6, 1, 2 }, 0x0010, 0, 5 },
+    { { 0x0105, 1, 2 }, 0x0010, 0, 5 },
+    { { 0xFFFF, 1, 2 }, 0x0010, 0, 5 },
+    /* Long: function, LBA */
+    { { 1, 0, 63 }, 0x000A, 1, 1 },
+    { { 1, 3, 63 }, 0x000A, 1, 2 },
+    { { 1, 0x0101, 63 }, 0x000A, 1, 1 },
+    { { 1, 1, 64 }, 0x0002, 2, 63 },
+    { { 1, 2, 0xFFFF }, 0x0002, 2, 0 },
+    /* fill: function, Start, the sum */
+    { { 2, 0, 63 }, 0x0001, 1, 1 },
+    { { 2, 3, 63 }, 0x0001, 1, 2 },
+    { { 2, 0x0201, 63 }, 0x0001, 1, 1 },
+    { { 2, 1, 64 }, 0x0002, 2, 63 },
+    { { 2, 2, 0x0100 }, 0x0002, 2, 0 },
+    { { 2, 1, 0, 0, 0, 0, 65 }, 0x0002, 6, 64 },
+    { { 2, 1, 63, 0, 0, 0, 2 }, 0x0002, 6, 1 },
+    { { 2, 2, 60, 0, 0, 0, 5 }, 0x0002, 6, 0 },
+    /* timers: function, timer, value */
+    { { 3, 0, 1, 10 }, 0x0004, 1, 1 },
+    { { 3, 3, 2, 10 }, 0x0004, 1, 2 },
+    { { 3, 1, 0, 10 }, 0x0005, 2, 1 },
+    { { 3, 1, 3, 10 }, 0x0005, 2, 2 },
+    { { 3, 2, 0x0101, 0 }, 0x0005, 2, 1 },
+    { { 3, 1, 1, 1 }, 0x0006, 3, 0 },
+    { { 3, 1, 1, 9 }, 0x0006, 3, 10 },
+    { { 3, 1, 2, 1 }, 0x0007, 3, 0 },
+    { { 3, 1, 2, 9 }, 0x0007, 3, 10 },
+    /* feature: function, feature, state, option */
+    { { 4, 0, 1, 1, 0 }, 0x000C, 1, 1 },
+    { { 4, 4, 3, 1, 1 }, 0x000C, 1, 3 },
+    { { 4, 1, 0, 1, 0 }, 0x000D, 2, 1 },
+    { { 4, 2, 4, 0, 0 }, 0x000D, 2, 3 },
+    { { 4, 3, 0x0102, 0, 0 }, 0x000D, 2, 2 },
+    { { 4, 1, 1, 0, 1 }, 0x000E, 3, 1 },
+    { { 4, 1, 1, 4, 0 }, 0x000E, 3, 3 },
+    { { 4, 1, 2, 3, 0 }, 0x000E, 3, 2 },
+    { { 4, 1, 3, 0, 1 }, 0x000E, 3, 65535 },
+    { { 4, 1, 1, 3, 2 }, 0x000F, 4, 1 },
+    { { 4, 1, 2, 1, 0x0100 }, 0x000F, 4, 0 },
+    { { 4, 1, 3, 65535, 65535 }, 0x000F, 4, 1 },
+    /* table: function, table */
+    { { 5, 0, 2 }, 0x0001, 1, 1 },
+    { { 5, 2, 2 }, 0x0001, 1, 1 },
+    { { 5, 1, 1 }, 0x0011, 2, 2 },
+    { { 5, 1, 3 }, 0x0011, 2, 2 },
+    { { 5, 1, 0x0202 }, 0x0011, 2, 2 }
+};
+
+enum { KEY_ROWS = sizeof key_rows / sizeof key_rows[0] };
+
+static void key_table(void)
+{
+    for (unsigned i = 0; i < KEY_ROWS; i++) {
+        expect_refused_key(key_rows[i].words, key_rows[i].refusal, key_rows[i].word);
+        build_words(SMART, key_rows[i].words);
+        put16(mail + R_SECTOR + 2 * key_rows[i].word, key_rows[i].right);
+        expect_key("the word named is put right", 0);
+    }
+}
+
+/* "any, locked: 0012h", before all else: keys of every row, and the same put right. */
+static void key_table_locked(void)
+{
+    power_on(0);
+    expect("lock", code->lock(device, sizeof device), SCT_DONE);
+    for (unsigned i = 0; i < KEY_ROWS; i++) {
+        build_words(SMART, key_rows[i].words);
+        send(0);
+        expect_refused("key under the lock", 0x04, 0x0012, 255);
+        build_words(LOG_EXT, key_rows[i].words);
+        put16(mail + R_SECTOR + 2 * key_rows[i].word, key_rows[i].right);
+        send(0);
+        expect_refused("right key under the lock", 0x04, 0x0012, 255);
+    }
+    expect("unlock", code->unlock(device, sizeof device), SCT_DONE);
+    expect("stored code", stored_code(), 0x0012);
+}
+
+/* Of several faults the first in the table's order is named, with its word. */
+static void several_faults(void)
+{
+    static const struct { uint16_t words[KEY_WORDS]; uint16_t refusal; uint8_t word; } keys[] = {
+        { { 6, 9, 9, 9, 9 }, 0x0010, 0 },
+        { { 1, 3, 64 }, 0x000A, 1 },
+        { { 2, 3, 64 }, 0x0001, 1 },                                    /* function and Start */
+        { { 2, 0, 0, 0, 0, 0, 65 }, 0x0001, 1 },                        /* function and sum */
+        { { 2, 1, 64, 0, 0, 0, 1 }, 0x0002, 2 },                        /* Start and sum */
+        { { 2, 2, 65, 0, 0, 0, 64 }, 0x0002, 2 },
+        { { 2, 1, 64, 0, 0, 0, 0xFFFF, 0xFFFF, 0xFFFF, 0xFFFF }, 0x0002, 2 },
+        { { 2, 1, 0xFFFF, 0xFFFF, 0xFFFF, 0xFFFF, 1 }, 0x0002, 2 },     /* the sum is 2^64 */
+        { { 2, 1, 0xFFFF, 0xFFFF, 0xFFFF, 0xFFFF, 2 }, 0x0002, 2 },     /* and 2^64 + 1 */
+        { { 3, 3, 3, 9 }, 0x0004, 1 },
+        { { 3, 1, 3, 9 }, 0x0005, 2 },
+        { { 4, 4, 4, 0, 2 }, 0x000C, 1 },
+        { { 4, 1, 4, 0, 2 }, 0x000D, 2 },
+        { { 4, 1, 3, 0, 2 }, 0x000E, 3 },                               /* state and option */
+        { { 5, 2, 3 }, 0x0001, 1 }
+    };
+
+    for (size_t i = 0; i < sizeof keys / sizeof keys[0]; i++)
+        expect_refused_key(keys[i].words, keys[i].refusal, keys[i].word);
+}
+
+/* A number of four words has one name, whichever of its words is too large; a sum "never wraps". */
+static void wide_numbers(void)
+{
+    static const struct { uint16_t words[KEY_WORDS]; uint8_t word; } keys[] = {
+        { { 1, 1, 63, 1 }, 2 }, { { 1, 1, 0, 0, 1 }, 2 }, { { 1, 2, 0, 0, 0, 0x8000 }, 2 },
+        { { 2, 1, 63, 1 }, 2 }, { { 2, 1, 0, 0, 1 }, 2 }, { { 2, 2, 0, 0, 0, 0x8000 }, 2 },
+        { { 2, 1, 0, 0, 0, 0, 64, 1 }, 6 }, { { 2, 1, 0, 0, 0, 0, 0, 0, 1 }, 6 },
+        { { 2, 2, 0, 0, 0, 0, 0, 0, 0, 0x8000 }, 6 },
+        { { 2, 1, 1, 0, 0, 0, 0xFFFF, 0xFFFF, 0xFFFF, 0xFFFF }, 6 },    /* the sum is 2^64 */
+        { { 2, 1, 63, 0, 0, 0, 0xFFC1, 0xFFFF, 0xFFFF, 0xFFFF }, 6 },   /* and here */
+        { { 2, 2, 63, 0, 0, 0, 0xFFFF, 0xFFFF, 0xFFFF, 0xFFFF }, 6 },   /* 2^64 + 62 */
+        { { 2, 1, 0, 0, 0, 0, 0xFFFF, 0xFFFF, 0xFFFF, 0xFFFF }, 6 }     /* 2^64 - 1 */
+    };
+
+    for (size_t i = 0; i < sizeof keys / sizeof keys[0]; i++)
+        expect_refused_key(keys[i].words, 0x0002, keys[i].word);
+}
+
+/* The reply to an accepted key names no word: "LBA Mid is 1 if a sector is owed", 2 for a Long key, "else 0". */
+static void accepted_keys(void)
+{
+    static const struct { uint16_t words[KEY_WORDS]; uint16_t value; uint8_t mid; } keys[] = {
+        { { 1, 1, 63 }, 2, 2 }, { { 1, 2, 63 }, 2, 2 },
+        { { 2, 1, 63 }, 0, 0 }, { { 2, 2, 63 }, 0, 1 }, { { 2, 2, 0, 0, 0, 0, 64 }, 0, 1 },
+        { { 3, 1, 1, 10 }, 0, 0 }, { { 3, 2, 1, 9 }, 70, 0 },
+        { { 4, 1, 3, 65535, 1 }, 0, 0 }, { { 4, 2, 1, 0, 2 }, 1, 0 }, { { 4, 3, 1, 0, 2 }, 0, 0 },
+        { { 5, 1, 2 }, 0, 1 }
+    };
+
+    for (size_t i = 0; i < sizeof keys / sizeof keys[0]; i++) {
+        uint8_t wanted[SCT_MAILBOX_BYTES] = { 0 };
+
+        wanted[R_STATUS] = 0x50;
+        wanted[R_COUNT] = (uint8_t)keys[i].value;
+        wanted[R_MID] = keys[i].mid;
+        power_on(0);
+        build_words(SMART, keys[i].words);
+        send(0);
+        expect("accepted key, LBA Mid", mail[R_MID], keys[i].mid);
+        expect("accepted key", memcmp(mail, wanted, sizeof mail) != 0, 0);
+    }
+}
+
+static void build_wrong_option(enum form form)
+{
+    build_key(mail, form, 4, 1, 1, 1, 2);
+}
+
+/* A key that is refused with word 4, so that a word which is kept would be seen. */
+static void refuse_option(void)
+{
+    build_wrong_option(SMART);
+    send(0);
+    expect_refused("option", 0x04, 0x000F, 4);
+}
+
+/* The request in the mailbox is refused with 0 in LBA Mid. */
+static void expect_no_word(const char *what, uint8_t error, uint16_t refusal)
+{
+    send(0);
+    expect_refused(what, error, refusal, 0);
+}
+
+/* "E1h replies keep 0", and so does all that is no key. */
+static void other_requests(void)
+{
+    clear_disk();
+    power_on(0);
+    refuse_option();
+    build_data_read(mail, SMART);
+    expect_no_word("E1h, nothing is pending", 0x04, 0x000B);
+    build_data_write(mail, LOG_EXT);
+    expect_no_word("E1h, nothing is pending", 0x04, 0x000B);
+    build_key(mail, SMART, 5, 1, 2, 0, 0);
+    expect_key("table", 0);
+    build_log(mail, SMART, false, 0xE1, 2);
+    expect_no_word("E1h, count 2", 0x04, 0x0003);
+    build_long(mail, SMART, 2, 0);
+    expect_key("Write Long", 0);
+    build_data_write(mail, SMART);
+    expect_no_word("E1h, count 1", 0x04, 0x0003);
+    refuse_option();
+    build_wrong_option(SMART);
+    mail[R_COUNT] = 2;
+    expect_no_word("E0h write, count 2", 0x04, 0);
+    build_wrong_option(LOG_EXT);
+    put16(mail + R_COUNT, 0x0101);
+    expect_no_word("E0h write, count 0101h", 0x04, 0);
+    build_log(mail, SMART, false, 0xE0, 2);
+    expect_no_word("E0h read, count 2", 0x04, 0);
+    build_wrong_option(SMART);
+    mail[R_LOW] = 0xE2;
+    expect_no_word("log E2h", 0x04, 0);
+    build_sector(mail, false, 0xFF00, 2);
+    expect_no_word("24h, count 2", 0x04, 0);
+    build_sector(mail, true, 0xFF00, 1);
+    expect_no_word("34h above V", 0x10, 0);
+    disk[0] = 1;
+    build_sector(mail, false, 0, 1);
+    expect_no_word("24h, the check differs", 0x40, 0);
+    build_command(mail, 0xEC);
+    expect_no_word("ECh", 0x04, 0);
+    expect("the stored code is the last key's", stored_code(), 0x000F);
+}
+
+static void other_requests_locked(void)
+{
+    power_on(0);
+    expect("lock", code->lock(device, sizeof device), SCT_DONE);
+    for (enum form form = SMART; form <= LOG_EXT; form++) {
+        build_status(mail, form);
+        expect_no_word("status read under the lock", 0x04, 0x0012);
+        build_data_read(mail, form);
+        expect_no_word("E1h read under the lock", 0x04, 0x0012);
+        build_long_write(mail, form);
+        expect_no_word("E1h write under the lock", 0x04, 0x0012);
+    }
+    build_log(mail, SMART, true, 0xE0, 2);
+    expect_no_word("E0h write under the lock, count 2", 0x04, 0);
+    build_sector(mail, false, 0xFF00, 1);
+    expect_no_word("24h under the lock", 0x04, 0);
+}
+
+/* Keys with the same code, action and function and other words leave the same record. */
+static void word_is_not_kept(void)
+{
+    uint8_t before[sizeof device];
+
+    power_on(0);
+    build_fill(mail, SMART, 1, SECTORS, 0, 0);
+    send(0);
+    expect_refused("Start", 0x04, 0x0002, 2);
+    memcpy(before, device, sizeof device);
+    build_fill(mail, SMART, 1, 0, SECTORS + 1, 0);
+    send(0);
+    expect_refused("sum", 0x04, 0x0002, 6);
+    expect("record", memcmp(device, before, sizeof device) != 0, 0);
+    power_on(0);
+    build_fill(mail, SMART, 1, 0, SECTORS + 1, 0);
+    send(0);
+    expect("record after the sum alone", memcmp(device, before, sizeof device) != 0, 0);
+    expect("stored code", stored_code(), 0x0002);
+}
+
 static void run(const struct implementation *implementation)
 {
     code = implementation;
@@ -1410,6 +1720,14 @@ static void run(const struct implementation *implementation)
     convert_nothing();
     old_images();
     status_over_anything();
+    key_table();
+    key_table_locked();
+    several_faults();
+    wide_numbers();
+    accepted_keys();
+    other_requests();
+    other_requests_locked();
+    word_is_not_kept();
 }
 
 int main(void)

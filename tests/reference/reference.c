@@ -99,6 +99,15 @@
  *  71   only 8 bits of the form asked for are compared
  *  72   a timer of 0 is saved as 70
  *  73   byte 12 of the status sector, which no rule names, is what the slot held
+ *  74   a fill whose sum is at fault names word 2
+ *  75   a fill whose Start is at fault names word 6
+ *  76   an E1h that the lock refuses has 255 in LBA Mid
+ *  77   a status read that the lock refuses has 255 in LBA Mid
+ *  78   a key that the lock refuses names word 0
+ *  79   a feature's state at fault names word 4
+ *  80   a timer's value at fault names word 2
+ *  81   a fill whose Start and sum are both at fault names word 6
+ *  82   a refusal that names word 0 is taken for none, so a wrong action is accepted
  */
 #ifdef PLANT
 #define PLANTED(n) (PLANT == (n))
@@ -755,7 +764,7 @@ static struct request read_registers(const uint8_t *registers)
 struct reply {
     uint8_t  error;     /* 0: good */
     uint16_t value;     /* "in Sector Count (low) and LBA Low (high)" */
-    uint8_t  sectors;   /* "LBA Mid is 1 if a sector is owed" */
+    uint8_t  mid;       /* "LBA Mid is 1 if a sector is owed"; W-206: a refused key's word */
     uint16_t data;      /* so many bytes of the slot's data are already the reply's */
 };
 
@@ -819,7 +828,7 @@ static void write_reply(uint8_t *slot, struct reply reply)
     memset(slot, 0, SCT_REGISTER_BYTES);
     slot[COUNT_NOW] = (uint8_t)reply.value;
     slot[LOW_NOW] = (uint8_t)(reply.value >> 8);
-    slot[MID_NOW] = reply.sectors;
+    slot[MID_NOW] = reply.mid;
     slot[STATUS] = reply.error ? 0x51 : 0x50;
     slot[ERROR] = reply.error;
     memset(slot + SCT_REGISTER_BYTES + reply.data, 0, planted_end(reply) - reply.data);
@@ -864,19 +873,38 @@ static uint16_t word(const uint8_t *key, int number)
     return load16(key + 2 * number);
 }
 
-/* Each judge_ function gives the code of the refusal, or 0: accepted. */
+/*
+ * W-206: "The reading of a key sector shall yield, with a refusal, the word that
+ * caused it: 0 action, 1 function, 2 to 4 those words, 2 for Start or a Long
+ * LBA, 6 where the sum alone is at fault, 255 for the lock."
+ */
+struct refusal {
+    uint16_t code;      /* 0: accepted */
+    uint8_t  word;      /* 0 is the action, and does not mean "none" */
+};
+
+enum { SUM_WORD = 6, LOCK_WORD = 255 };
+
+static const struct refusal accepted = { 0, 0 };
+
+static struct refusal refuse(uint16_t code, uint8_t number)
+{
+    return (struct refusal){ code, number };
+}
+
+/* Each judge_ function gives the refusal, or accepted. */
 
 /* W-202: "functions 1 (read) and 2 (write)", "function 000Ah, LBA 0002h after it". */
-static uint16_t judge_long(const struct device *d, const uint8_t *key)
+static struct refusal judge_long(const struct device *d, const uint8_t *key)
 {
     uint16_t function = word(key, 1);
     bool outside = load64(key + KEY_LBA) >= d->visible;
 
     if (PLANTED(41) && outside)
-        return BAD_RANGE;
+        return refuse(BAD_RANGE, 2);
     if (function != LONG_READ && function != LONG_WRITE)
-        return BAD_LONG_FUNCTION;
-    return outside ? BAD_RANGE : 0;
+        return refuse(BAD_LONG_FUNCTION, 1);
+    return outside ? refuse(BAD_RANGE, 2) : accepted;
 }
 
 /*
@@ -895,9 +923,10 @@ static bool sum_exceeds_visible(const struct device *d, uint64_t start, uint64_t
 /*
  * "1 pattern, 2 sector; else 0001h". W-201: "Refuse when Start is above the
  * last user LBA, or when Count is not 0 and Start + Count exceeds the visible
- * size." "0002h keeps its place."
+ * size." "0002h keeps its place." Where Start is too large and Count is not 0, the
+ * sum is too large as well: it is not "the sum alone".
  */
-static uint16_t judge_fill(const struct device *d, const uint8_t *key)
+static struct refusal judge_fill(const struct device *d, const uint8_t *key)
 {
     uint64_t last = d->visible - 1;
     uint64_t start = load64(key + KEY_START);
@@ -905,77 +934,77 @@ static uint16_t judge_fill(const struct device *d, const uint8_t *key)
     uint16_t function = word(key, 1);
 
     if (function != FILL_PATTERN && function != FILL_SECTOR)
-        return BAD_FUNCTION;
+        return refuse(BAD_FUNCTION, 1);
     if (start > (PLANTED(1) ? last + 1 : last))
-        return BAD_RANGE;
+        return refuse(BAD_RANGE, PLANTED(75) || (PLANTED(81) && count != 0) ? SUM_WORD : 2);
     if (count != 0 && sum_exceeds_visible(d, start, count))
-        return BAD_RANGE;
-    return 0;
+        return refuse(BAD_RANGE, PLANTED(74) ? 2 : SUM_WORD);
+    return accepted;
 }
 
 /*
  * "1 set, 2 return; else 0004h", "word 2 is 1 read or 2 write, else 0005h;
  * set: word 3 in 100 ms, 1 to 9 gives 0006h (read) or 0007h (write); 0 is off"
  */
-static uint16_t judge_timer(const uint8_t *key)
+static struct refusal judge_timer(const uint8_t *key)
 {
     uint16_t function = word(key, 1);
     uint16_t which = word(key, 2);
 
     if (function != TIMER_SET && function != TIMER_RETURN)
-        return BAD_TIMER_FUNCTION;
+        return refuse(BAD_TIMER_FUNCTION, 1);
     if (which != 1 && which != 2)
-        return BAD_TIMER;
+        return refuse(BAD_TIMER, 2);
     if (function == TIMER_SET && !timer_in_range(word(key, 3)))
-        return which == 1 ? BAD_READ_TIMER : BAD_WRITE_TIMER;
-    return 0;
+        return refuse(which == 1 ? BAD_READ_TIMER : BAD_WRITE_TIMER, PLANTED(80) ? 2 : 3);
+    return accepted;
 }
 
 /* "set only: word 3 invalid 000Eh, then word 4 other than 0 or 1 000Fh" */
-static uint16_t judge_feature_set(int feature, const uint8_t *key)
+static struct refusal judge_feature_set(int feature, const uint8_t *key)
 {
     if (PLANTED(5) && word(key, 4) > 1)
-        return BAD_OPTION;
+        return refuse(BAD_OPTION, 4);
     if (!state_in_range(feature, word(key, 3)))
-        return BAD_STATE;
+        return refuse(BAD_STATE, PLANTED(79) ? 4 : 3);
     if (word(key, 4) > 1)
-        return BAD_OPTION;
-    return 0;
+        return refuse(BAD_OPTION, 4);
+    return accepted;
 }
 
 /* "1 set, 2 state, 3 options; else 000Ch", "word 2 is 1 to 3, else 000Dh" */
-static uint16_t judge_feature(const uint8_t *key)
+static struct refusal judge_feature(const uint8_t *key)
 {
     uint16_t function = word(key, 1);
     uint16_t feature = word(key, 2);
 
     if (function < FEATURE_SET || function > FEATURE_OPTIONS)
-        return BAD_FEATURE_FUNCTION;
+        return refuse(BAD_FEATURE_FUNCTION, 1);
     if (feature < 1 || feature > FEATURES)
-        return BAD_FEATURE;
-    return function == FEATURE_SET ? judge_feature_set(feature - 1, key) : 0;
+        return refuse(BAD_FEATURE, 2);
+    return function == FEATURE_SET ? judge_feature_set(feature - 1, key) : accepted;
 }
 
 /* "1; else 0001h", "word 2 is 2, else 0011h" */
-static uint16_t judge_table(const uint8_t *key)
+static struct refusal judge_table(const uint8_t *key)
 {
     if (word(key, 1) != 1)
-        return BAD_FUNCTION;
-    return word(key, 2) == 2 ? 0 : BAD_TABLE;
+        return refuse(BAD_FUNCTION, 1);
+    return word(key, 2) == 2 ? accepted : refuse(BAD_TABLE, 2);
 }
 
 /* "any, locked: 0012h", "not 2 to 5: 0010h"; W-202: "01's check on actions becomes 1 to 5". */
-static uint16_t judge_key(const struct device *d, const uint8_t *key)
+static struct refusal judge_key(const struct device *d, const uint8_t *key)
 {
     if (d->locked)
-        return LOCKED;
+        return refuse(LOCKED, PLANTED(78) ? 0 : LOCK_WORD);
     switch (word(key, 0)) {
     case LONG:    return judge_long(d, key);
     case FILL:    return judge_fill(d, key);
     case TIMER:   return judge_timer(key);
     case FEATURE: return judge_feature(key);
     case TABLE:   return judge_table(key);
-    default:      return BAD_ACTION;
+    default:      return refuse(BAD_ACTION, 0);
     }
 }
 
@@ -1056,21 +1085,29 @@ static struct reply accept_table(struct port *port)
     return good_with_transfer();
 }
 
+/* "A refused key stores its code." W-206: "The key reply carries it", the word, "in LBA Mid"; it is not stored. */
+static struct reply refuse_key(struct device *d, struct refusal refusal)
+{
+    struct reply reply = sct_refused_stored(d, refusal.code);
+
+    reply.mid = refusal.word;
+    return reply;
+}
+
 /*
  * "Words 0 and 1 are action and function; both are recorded from every key,
- * accepted or not." "A refused key stores its code. An accepted key stores
- * 0000h, a pattern fill FFFFh."
+ * accepted or not." "An accepted key stores 0000h, a pattern fill FFFFh."
  */
 static struct reply serve_key(struct service *s)
 {
     struct device *d = s->device;
     const uint8_t *key = s->sector;
-    uint16_t code = judge_key(d, key);
+    struct refusal refusal = judge_key(d, key);
 
     d->action = word(key, 0);
     d->function = word(key, 1);
-    if (code != 0)
-        return sct_refused_stored(d, code);
+    if (PLANTED(82) ? refusal.word != 0 : refusal.code != 0)
+        return refuse_key(d, refusal);
     d->code = CODE_DONE;
     switch (d->action) {
     case LONG:    return accept_long(s->port, key);
@@ -1112,11 +1149,19 @@ static void write_status(uint8_t *sector, const struct device *d)
     sector[204] = d->life_maximum;
 }
 
-/* "A refused status read under the lock answers 0012h and stores nothing." */
+/* Gives a word to a refusal by the lock that is not a key's. */
+static struct reply planted_word(bool planted, struct reply reply)
+{
+    if (planted && reply.value == LOCKED)
+        reply.mid = LOCK_WORD;
+    return reply;
+}
+
+/* "A refused status read under the lock answers 0012h and stores nothing." It is no key, and names no word. */
 static struct reply serve_status(struct service *s)
 {
     if (s->device->locked)
-        return sct_refused(LOCKED);
+        return planted_word(PLANTED(77), sct_refused(LOCKED));
     write_status(s->sector, s->device);
     return good_with_data(SCT_SECTOR_BYTES);
 }
@@ -1209,7 +1254,7 @@ static uint16_t judge_transfer(const struct service *s, const struct request *r)
  * "E1h is judged: [..]. Each becomes the stored code. [..] A completed transfer
  * stores 0000h, or FFFFh where it starts a fill." The transfer has been dropped
  * by now in every case: "an E1h request judges that owed transfer as it was
- * before".
+ * before". W-206: "E1h replies keep 0" in LBA Mid.
  */
 static struct reply serve_transfer(struct service *s, const struct request *r)
 {
@@ -1217,7 +1262,7 @@ static struct reply serve_transfer(struct service *s, const struct request *r)
 
     if (code != 0) {
         planted_keep(s);
-        return sct_refused_stored(s->device, code);
+        return planted_word(PLANTED(76), sct_refused_stored(s->device, code));
     }
     s->device->code = CODE_DONE;
     switch (s->before.pending) {

@@ -26,7 +26,7 @@ module _ (d e f : device.Device.Device) (p : ℕ) (dir : Direction) (count n : �
     (pends : t ≡ getD (pendingOf (d .slots)) p none) (judged : n ≡ firstFailed (dataChecks (d .locked) dir count t)) (stop : Changed interrupt d e) (coded : Changed (withCode n) e f) where
   -- what is decided if the first check that fails has the number c
   abbrev choice : ℕ → Transfer → Device → Decision
-  choice c u x = ifPassed c (decision (withCode 0x0000 (interrupt x)) (good 0 0) (transferEffect u (longDataOf m))) (decision (withCode c (interrupt x)) (refusedWith c) nothing)
+  choice c u x = ifPassed c (decision (withCode 0x0000 (interrupt x)) (good 0 0) (transferEffect u (longDataOf m))) (decision (withCode c (interrupt x)) (refusedWith c 0) nothing)
 
   abbrev rule : Device → Decision
   rule x = decideData dir count (pendingFor p x) (longDataOf m) (interrupt x)
@@ -45,11 +45,11 @@ module _ (d e f : device.Device.Device) (p : ℕ) (dir : Direction) (count n : �
   stopped = changed-then interrupt (withCode n) d e f stop coded
 
   -- THE LAWS of a transfer: refused, and completed
-  pub data-refused : (n ≡ 0 → ⊥) → (q : Registers) → q ≡ refusedWith n → Says f q (λ m. nothing) k → Decided m rule d k
+  pub data-refused : (n ≡ 0 → ⊥) → (q : Registers) → q ≡ refusedWith n 0 → Says f q (λ m. nothing) k → Decided m rule d k
   data-refused ne q registers says =
-      decided-as m (λ x. decision (withCode n (interrupt x)) (refusedWith n) nothing) rule d k
-      (λ h. sym (passed-not n _ (decision (withCode n (interrupt (asDevice d h))) (refusedWith n) nothing) ne) ∙ chosen h)
-      (says-decided m (λ x. withCode n (interrupt x)) (λ x. refusedWith n) (λ m. nothing) d f q k says stopped (λ h. registers))
+      decided-as m (λ x. decision (withCode n (interrupt x)) (refusedWith n 0) nothing) rule d k
+      (λ h. sym (passed-not n _ (decision (withCode n (interrupt (asDevice d h))) (refusedWith n 0) nothing) ne) ∙ chosen h)
+      (says-decided m (λ x. withCode n (interrupt x)) (λ x. refusedWith n 0) (λ m. nothing) d f q k says stopped (λ h. registers))
 
   pub data-completed : n ≡ 0 → Decided m (λ x. decision x (good 0 0) (transferEffect t (longDataOf m))) f k → Decided m rule d k
   data-completed z done =

@@ -21,6 +21,7 @@ use Rattle.record.specs.declared.device as device
 use Rattle.record.specs.DeviceMeaning.{asDevice}
 use Rattle.key.specs.VerdictMeaning.{asAction, asVerdict, refusalOf}
 use Rattle.key.specs.declared.key as key
+use Rattle.key.specs.declared.refusal as refusal
 use Rattle.key.specs.declared.key.Verdict.the-variants.{Accepted, Rejected}
 use Rattle.device_update.specs.Change.{Changed}
 use Rattle.decision.specs.declared.decision as code
@@ -53,9 +54,10 @@ module _ (p : ℕ) (x : Device) (k : List ℕ) where
   unfolding decideKey
   verdict-accepted y e = sym (ap (λ (v : Verdict). decideVerdict v p (withKey (word k 0) (word k 1) x)) e)
 
-  verdict-refused : (n : ℕ) → judgeKey x k ≡ rejected n → decision (withCode n (withKey (word k 0) (word k 1) x)) (refusedWith n) nothing ≡ decideKey p k x
+  verdict-refused : (code named : ℕ) → judgeKey x k ≡ rejected code named
+      → decision (withCode code (withKey (word k 0) (word k 1) x)) (refusedWith code named) nothing ≡ decideKey p k x
   unfolding decideKey
-  verdict-refused n e = sym (ap (λ (v : Verdict). decideVerdict v p (withKey (word k 0) (word k 1) x)) e)
+  verdict-refused code named e = sym (ap (λ (v : Verdict). decideVerdict v p (withKey (word k 0) (word k 1) x)) e)
 
 module _ (a : List ℕ) (p : ℕ) (d e : device.Device.Device) (asked : key.Verdict.Verdict) where
   -- the key, as the code reads it and as the model names it
@@ -75,17 +77,22 @@ module _ (a : List ℕ) (p : ℕ) (d e : device.Device.Device) (asked : key.Verd
         ∙ ap (λ (k : List ℕ). asVerdict asked (patternSector k)) (slot-data a p)
 
     -- THE LAWS of a key: refused ..
-    pub key-refused : (n given : ℕ) (f : device.Device.Device) (q : Registers) (k : code.Decision.Decision) → asked ≡ Rejected given → n ≡ refusalOf asked
-        → Changed (withCode n) e f → q ≡ refusedWith n → Says f q (λ m. nothing) k
+    pub key-refused : (r given : refusal.Refusal.Refusal) (f : device.Device.Device) (q : Registers) (k : code.Decision.Decision) → asked ≡ Rejected given → r ≡ refusalOf asked
+        → Changed (withCode (r .code)) e f → q ≡ refusedWith (r .code) (r .word) → Says f q (λ m. nothing) k
         → Decided (slotBytes p a) (λ x. decideKey p sector (interrupt x)) d k
-    key-refused n given f q k is code coded registers says =
-        let verdict : (h : List ℕ) → judgeKey (interrupt (asDevice d h)) sector ≡ rejected n =
-        λ h. judged h ∙ ap (λ (v : key.Verdict.Verdict). asVerdict v (patternSector sector)) is ∙ ap rejected (sym (code ∙ ap refusalOf is)) in
-        decided-as (slotBytes p a) (λ x. decision (withCode n (recordedBy bytes x)) (refusedWith n) nothing) (λ x. decideKey p sector (interrupt x)) d k
+    key-refused r given f q k is same coded registers says =
+        let n = r .code in
+        let reply = refusedWith n (r .word) in
+        let verdict : (h : List ℕ) → judgeKey (interrupt (asDevice d h)) sector ≡ rejected n (r .word) =
+        λ h.
+        judged h
+        ∙ ap (λ (v : key.Verdict.Verdict). asVerdict v (patternSector sector)) is
+        ∙ ap (λ (x : refusal.Refusal.Refusal). rejected (x .code) (x .word)) (sym (same ∙ ap refusalOf is)) in
+        decided-as (slotBytes p a) (λ x. decision (withCode n (recordedBy bytes x)) reply nothing) (λ x. decideKey p sector (interrupt x)) d k
         (λ h.
-        ap (λ (l : List ℕ). decision (withCode n (recordedBy l (asDevice d h))) (refusedWith n) nothing) (slot-data a p)
-        ∙ verdict-refused p (interrupt (asDevice d h)) sector n (verdict h))
-        (says-decided (slotBytes p a) (λ x. withCode n (recordedBy bytes x)) (λ x. refusedWith n) (λ m. nothing) d f q k says (changed-then (recordedBy bytes) (withCode n) d e f words coded) (λ h. registers))
+        ap (λ (l : List ℕ). decision (withCode n (recordedBy l (asDevice d h))) reply nothing) (slot-data a p)
+        ∙ verdict-refused p (interrupt (asDevice d h)) sector n (r .word) (verdict h))
+        (says-decided (slotBytes p a) (λ x. withCode n (recordedBy bytes x)) (λ x. reply) (λ m. nothing) d f q k says (changed-then (recordedBy bytes) (withCode n) d e f words coded) (λ h. registers))
 
     -- .. and accepted
     pub key-accepted : (y : key.Action.Action) (f : device.Device.Device) (k : code.Decision.Decision) → asked ≡ Accepted y → Changed (withCode 0x0000) e f

@@ -42,7 +42,7 @@ pub fn decide_data(d: Device, t: Transfer, dir: Direction, count: u16) -> Decisi
     let stopped = device_update::interrupt(d);
     let e = device_update::with_code(stopped, code);
     if code != 0 {
-        return replied(e, reply::refused_with(code));
+        return replied(e, reply::refused_with(code, 0));
     }
     completed(e, t)
 }

@@ -4,6 +4,7 @@ use mathlib.Core.List.{List}
 use Rattle.model.specs.Key.{Action, accessLong, fillPattern, fillSector, setTimer, returnTimer, setFeature, returnState, returnOption, sendTable, Verdict, accepted, rejected}
 use Rattle.record.specs.DeviceMeaning.{asDirection, asFeatureName}
 use Rattle.key.specs.declared.key as key
+use Rattle.key.specs.declared.refusal as refusal
 use Rattle.key.specs.declared.key.Action.the-variants.{AccessLong, FillPattern, FillSector, SetTimer, ReturnTimer, SetFeature, ReturnState, ReturnOption, SendTable}
 use Rattle.key.specs.declared.key.Verdict.the-variants.{Accepted, Rejected}
 
@@ -21,9 +22,9 @@ asAction SendTable sector = sendTable
 
 abbrev pub asVerdict : key.Verdict.Verdict → List ℕ → Verdict
 asVerdict (Accepted a) sector = accepted (asAction a sector)
-asVerdict (Rejected code) sector = rejected code
+asVerdict (Rejected r) sector = rejected (r .code) (r .word)
 
--- the code of a refused key, and 0 for an accepted one
-abbrev pub refusalOf : key.Verdict.Verdict → ℕ
-refusalOf (Accepted a) = 0
-refusalOf (Rejected code) = code
+-- why a key is refused; zeros for an accepted one
+abbrev pub refusalOf : key.Verdict.Verdict → refusal.Refusal.Refusal
+refusalOf (Accepted a) = record { code = 0; word = 0 }
+refusalOf (Rejected r) = r

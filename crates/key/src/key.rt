@@ -1,4 +1,5 @@
 // The key sector: how it is read and checked in the paper's order, and what an accepted key asks for.
+use crate::refusal::Refusal;
 use layout::sct;
 use record::Direction;
 use record::FeatureName;
@@ -9,11 +10,11 @@ ghost use Prim.Native.Nat.{ℕ, _+_, _≤_};
 ghost use mathlib.Core.List.{List, [], _∷_};
 ghost use lib.ListN.{length};
 ghost use lib.Dec.{eqb, leb};
-ghost use Rattle.wire.specs.Choice.{if_then_else_, between, firstFailed};
+ghost use Rattle.wire.specs.Choice.{if_then_else_, between};
 ghost use Rattle.wire.specs.Parts.{part};
 ghost use Rattle.model.specs.Sizes.{sectorSize};
 ghost use Rattle.model.specs.Device.{Device};
-ghost use Rattle.model.specs.Key.{word, longLba, start, count, highestState, directionOf, featureName, longChecks, fillChecks, timerChecks, featureChecks, tableChecks, fillEnd, fillPattern, fillSector, longAction, fillAction, timerAction, setFeature, returnState, returnOption, featureAction, sendTable, patternSector, verdict, judgeKey};
+ghost use Rattle.model.specs.Key.{word, longLba, start, count, highestState, directionOf, featureName, longChecks, fillChecks, timerChecks, featureChecks, tableChecks, fillEnd, fillPattern, fillSector, longAction, fillAction, timerAction, setFeature, returnState, returnOption, featureAction, sendTable, patternSector, judged, judgeKey};
 ghost use Rattle.record.specs.DeviceMeaning.{asDirection, asFeatureName};
 ghost use Rattle.key.specs.VerdictMeaning.{asAction, asVerdict, refusalOf};
 
@@ -31,19 +32,19 @@ pub enum Action {
     SendTable,
 }
 
-// A key is accepted with what it asks for, or refused with its code.
+// A key is accepted with what it asks for, or refused with its code and (W-206) the word that caused it.
 pub enum Verdict {
     Accepted(Action),
-    Rejected(u16),
+    Rejected(Refusal),
 }
 
-// The code of a refused key, and 0 for an accepted one.
-pub fn refusal_of(key: Verdict) -> u16
+// Why a key is refused; zeros for an accepted one.
+pub fn refusal_of(key: Verdict) -> Refusal
     ensures { λ r. ⌜ r ≡ refusalOf key ⌝ }
 {
     match key {
-        Verdict::Accepted(_) => 0,
-        Verdict::Rejected(code) => code,
+        Verdict::Accepted(_) => Refusal { code: 0, word: 0 },
+        Verdict::Rejected(refusal) => refusal,
     }
 }
 
@@ -85,13 +86,13 @@ fn direction_of(n: u16) -> Direction
 
 // Action 1 (W-202): "functions 1 (read) and 2 (write), LBA in words 2 to 5"; "function 000Ah, LBA 0002h after it".
 fn long_key(function: u16, lba: u64, visible: u64) -> Verdict
-    ensures { λ r. ⌜ ((k : List ℕ) → word k 1 ≡ function → longLba k ≡ lba → asVerdict r (patternSector k) ≡ verdict (firstFailed (longChecks visible k)) (longAction k)) ⌝ }
+    ensures { λ r. ⌜ ((k : List ℕ) → word k 1 ≡ function → longLba k ≡ lba → asVerdict r (patternSector k) ≡ judged (longChecks visible k) (longAction k)) ⌝ }
 {
     if !between(sct::READ, function, sct::WRITE) {
-        return Verdict::Rejected(sct::INVALID_LONG_FUNCTION);
+        return Verdict::Rejected(Refusal::LONG_FUNCTION);
     }
     if lba >= visible {
-        return Verdict::Rejected(sct::LBA_OUT_OF_RANGE);
+        return Verdict::Rejected(Refusal::LONG_LBA);
     }
     let dir = direction_of(function);
     Verdict::Accepted(Action::AccessLong(dir, lba))
@@ -111,48 +112,48 @@ fn fill_asked(function: u16, first: u64, end: u64) -> Action
 // Count exceeds the visible size."
 fn fill_key(function: u16, first: u64, sectors: u64, visible: u64) -> Verdict
     requires { ⌜ 1 ≤ visible ⌝ }
-    ensures { λ r. ⌜ ((k : List ℕ) → word k 1 ≡ function → start k ≡ first → count k ≡ sectors → asVerdict r (patternSector k) ≡ verdict (firstFailed (fillChecks visible k)) (fillAction visible k)) ⌝ }
+    ensures { λ r. ⌜ ((k : List ℕ) → word k 1 ≡ function → start k ≡ first → count k ≡ sectors → asVerdict r (patternSector k) ≡ judged (fillChecks visible k) (fillAction visible k)) ⌝ }
 {
     if !between(sct::FILL_PATTERN, function, sct::FILL_SECTOR) {
-        return Verdict::Rejected(sct::INVALID_FUNCTION);
+        return Verdict::Rejected(Refusal::FILL_FUNCTION);
     }
     let last = visible - 1;
     if first > last {
-        return Verdict::Rejected(sct::LBA_OUT_OF_RANGE);
+        return Verdict::Rejected(Refusal::FILL_START);
     }
     if !sum_within(first, sectors, visible) {
-        return Verdict::Rejected(sct::LBA_OUT_OF_RANGE);
+        return Verdict::Rejected(Refusal::FILL_SUM);
     }
     let end = fill_end(first, sectors, visible);
     let action = fill_asked(function, first, end);
     Verdict::Accepted(action)
 }
 
-// "0006h (read) or 0007h (write)"
-fn timer_code(name: u16) -> u16
-    ensures { λ r. ⌜ r ≡ (if eqb name 1 then 0x0006 else 0x0007) ⌝ }
+// "0006h (read) or 0007h (write)", of word 3
+fn timer_refusal(name: u16) -> Refusal
+    ensures { λ r. ⌜ (r .code ≡ (if eqb name 1 then 0x0006 else 0x0007)) × (r .word ≡ 3) ⌝ }
 {
     if name == sct::READ {
-        return sct::READ_TIMER_BELOW_MINIMUM;
+        return Refusal::READ_TIMER;
     }
-    sct::WRITE_TIMER_BELOW_MINIMUM
+    Refusal::WRITE_TIMER
 }
 
 // Action 3: "1 set, 2 return; else 0004h"; "word 2 is 1 read or 2 write, else 0005h";
 // "set: word 3 in 100 ms, 1 to 9 gives 0006h (read) or 0007h (write); 0 is off"
 fn timer_key(function: u16, name: u16, time: u16) -> Verdict
-    ensures { λ r. ⌜ ((k : List ℕ) → word k 1 ≡ function → word k 2 ≡ name → word k 3 ≡ time → asVerdict r (patternSector k) ≡ verdict (firstFailed (timerChecks k)) (timerAction k)) ⌝ }
+    ensures { λ r. ⌜ ((k : List ℕ) → word k 1 ≡ function → word k 2 ≡ name → word k 3 ≡ time → asVerdict r (patternSector k) ≡ judged (timerChecks k) (timerAction k)) ⌝ }
 {
     if !between(sct::TIMER_SET, function, sct::TIMER_RETURN) {
-        return Verdict::Rejected(sct::INVALID_TIMER_FUNCTION);
+        return Verdict::Rejected(Refusal::TIMER_FUNCTION);
     }
     if !between(sct::READ, name, sct::WRITE) {
-        return Verdict::Rejected(sct::INVALID_TIMER_SELECTION);
+        return Verdict::Rejected(Refusal::TIMER_SELECTION);
     }
     let dir = direction_of(name);
     if function == sct::TIMER_SET {
         if between(1, time, sct::TIMER_TOO_SHORT) {
-            return Verdict::Rejected(timer_code(name));
+            return Verdict::Rejected(timer_refusal(name));
         }
         return Verdict::Accepted(Action::SetTimer(dir, time));
     }
@@ -187,10 +188,10 @@ fn highest_state(name: u16) -> u16
 
 // "word 4 other than 0 or 1 000Fh"; "Option 1 keeps a state over power"
 fn feature_set(feature: FeatureName, state: u16, option: u16) -> Verdict
-    ensures { λ r. ⌜ ((sector : List ℕ) → asVerdict r sector ≡ verdict (firstFailed ((leb option 1, 0x000F) ∷ [])) (setFeature (asFeatureName feature) state (eqb option 1))) ⌝ }
+    ensures { λ r. ⌜ ((sector : List ℕ) → asVerdict r sector ≡ judged ((leb option 1, 0x000F, 4) ∷ []) (setFeature (asFeatureName feature) state (eqb option 1))) ⌝ }
 {
     if option > 1 {
-        return Verdict::Rejected(sct::INVALID_OPTION);
+        return Verdict::Rejected(Refusal::OPTION);
     }
     Verdict::Accepted(Action::SetFeature(feature, state, option == 1))
 }
@@ -208,18 +209,18 @@ fn feature_returned(function: u16, feature: FeatureName) -> Action
 // Action 4: "1 set, 2 state, 3 options; else 000Ch"; "word 2 is 1 to 3, else 000Dh";
 // "set only: word 3 invalid 000Eh, then word 4 other than 0 or 1 000Fh"
 fn feature_key(function: u16, name: u16, state: u16, option: u16) -> Verdict
-    ensures { λ r. ⌜ ((k : List ℕ) → word k 1 ≡ function → word k 2 ≡ name → word k 3 ≡ state → word k 4 ≡ option → asVerdict r (patternSector k) ≡ verdict (firstFailed (featureChecks k)) (featureAction k)) ⌝ }
+    ensures { λ r. ⌜ ((k : List ℕ) → word k 1 ≡ function → word k 2 ≡ name → word k 3 ≡ state → word k 4 ≡ option → asVerdict r (patternSector k) ≡ judged (featureChecks k) (featureAction k)) ⌝ }
 {
     if !between(sct::FEATURE_SET, function, sct::FEATURE_OPTIONS) {
-        return Verdict::Rejected(sct::INVALID_FEATURE_FUNCTION);
+        return Verdict::Rejected(Refusal::FEATURE_FUNCTION);
     }
     if !between(sct::WRITE_CACHE, name, sct::LOG_INTERVAL) {
-        return Verdict::Rejected(sct::INVALID_FEATURE);
+        return Verdict::Rejected(Refusal::FEATURE);
     }
     let feature = feature_name(name);
     if function == sct::FEATURE_SET {
         if !between(1, state, highest_state(name)) {
-            return Verdict::Rejected(sct::INVALID_STATE);
+            return Verdict::Rejected(Refusal::STATE);
         }
         return feature_set(feature, state, option);
     }
@@ -229,13 +230,13 @@ fn feature_key(function: u16, name: u16, state: u16, option: u16) -> Verdict
 
 // Action 5: "1; else 0001h"; "word 2 is 2, else 0011h"
 fn table_key(function: u16, name: u16) -> Verdict
-    ensures { λ r. ⌜ ((k : List ℕ) → word k 1 ≡ function → word k 2 ≡ name → asVerdict r (patternSector k) ≡ verdict (firstFailed (tableChecks k)) sendTable) ⌝ }
+    ensures { λ r. ⌜ ((k : List ℕ) → word k 1 ≡ function → word k 2 ≡ name → asVerdict r (patternSector k) ≡ judged (tableChecks k) sendTable) ⌝ }
 {
     if function != sct::TABLE_READ {
-        return Verdict::Rejected(sct::INVALID_FUNCTION);
+        return Verdict::Rejected(Refusal::TABLE_FUNCTION);
     }
     if name != sct::HISTORY_TABLE {
-        return Verdict::Rejected(sct::INVALID_TABLE);
+        return Verdict::Rejected(Refusal::TABLE);
     }
     Verdict::Accepted(Action::SendTable)
 }
@@ -247,11 +248,11 @@ pub fn read_key(area: &[u8], at: usize, locked: bool, visible: u64) -> Verdict
     ensures { λ r. ⌜ ((d : Device) → d .locked ≡ locked → d .visible ≡ visible → asVerdict r (patternSector (part (now (area .entry)) at sectorSize)) ≡ judgeKey d (part (now (area .entry)) at sectorSize)) ⌝ }
 {
     if locked {
-        return Verdict::Rejected(sct::LOCKED);
+        return Verdict::Rejected(Refusal::LOCKED);
     }
     let action = u16_at(area, at);
     if !between(sct::ACTION_LONG, action, sct::ACTION_TABLE) {
-        return Verdict::Rejected(sct::INVALID_ACTION);
+        return Verdict::Rejected(Refusal::ACTION);
     }
     let function = u16_at(area, at + sct::FUNCTION_AT);
     if action == sct::ACTION_LONG {

@@ -1,4 +1,4 @@
-// The key sector: its places, the actions, functions and selections that it names, and the extended status codes.
+// The key sector: its places and words, the actions, functions and selections that it names, and the extended status codes.
 
 // "Words 0 and 1 are action and function"; "LBA in words 2 to 5" (W-202); "Start bytes 4-11, Count 12-19"; "bytes 20-23 repeated 128 times". Actions 3
 // to 5 have words instead: what is selected (word 2), a value (word 3), an option (word 4).
@@ -19,6 +19,26 @@ pub const SELECTION_AT: usize = 4;
 pub const VALUE_AT: usize = 6;
 
 pub const OPTION_AT: usize = 8;
+
+// W-206: the word that a refusal names: "0 action, 1 function, 2 to 4 those words, 2 for Start or a Long LBA, 6 where the sum alone is at
+// fault, 255 for the lock". Word 6 is the first of Count.
+pub const ACTION_WORD: u8 = 0;
+
+pub const FUNCTION_WORD: u8 = 1;
+
+pub const LBA_WORD: u8 = 2;
+
+pub const START_WORD: u8 = 2;
+
+pub const COUNT_WORD: u8 = 6;
+
+pub const SELECTION_WORD: u8 = 2;
+
+pub const VALUE_WORD: u8 = 3;
+
+pub const OPTION_WORD: u8 = 4;
+
+pub const LOCK_WORD: u8 = 255;
 
 // W-202: "action 0001h"; "2 fill", "3 timers", "4 feature", "5 table"
 pub const ACTION_LONG: u16 = 1;

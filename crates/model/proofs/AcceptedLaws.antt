@@ -14,7 +14,8 @@ use Rattle.model.specs.Device.{Device}
 use Rattle.model.specs.Registers.{Direction, read, write, dataOf}
 use Rattle.model.specs.Key.{word, start, count, longLba, FeatureName, writeCache, reordering, logInterval, Action, accessLong, setTimer, returnTimer, setFeature, returnState, returnOption, sendTable, directionOf, featureName, actionOf, accepted, judgeKey}
 use Rattle.model.proofs.KeyTable.{Within}
-use Rattle.model.proofs.KeyLaws.{featureNumber, key-accepted}
+use Rattle.model.proofs.KeyLaws.{featureNumber}
+use Rattle.model.proofs.KeyRows.{key-accepted}
 
 -- ---- the bytes of a key's numbers
 

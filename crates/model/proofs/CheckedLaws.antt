@@ -133,7 +133,7 @@ module _ (s : Serving) (M : Machine) (m : List ℕ) (port : s .port < portCount)
 
   pub long-count-refused : (dir : Direction) (count lba : ℕ) → requestOf m ≡ dataTransfer dir count
       → getD (M .device .command .pending) (s .port) none ≡ longTransfer dir lba → (count ≡ 2 → ⊥)
-      → Serves s M (replyBytes (refusedWith 0x0003) []) (withCode 0x0003 (interrupt (M .device))) (M .disk)
+      → Serves s M (replyBytes (refusedWith 0x0003 0) []) (withCode 0x0003 (interrupt (M .device))) (M .disk)
       × (serveOn s M .state .device .command .pending ≡ nothingPending)
   long-count-refused dir count lba e pends ne =
       let w = serves-data-refused s M m port held dir count 0x0002 e (data-count-long s M m port held dir count lba unlocked pends ne) in

@@ -40,7 +40,7 @@ carried-part sendTable p d = inr refl
 
 verdict-part : (v : Verdict) (p : ℕ) (d : Device) → OnePart (decideVerdict v p d .effect)
 verdict-part (accepted a) p d = carried-part a p (withCode 0x0000 d)
-verdict-part (rejected code) p d = inr refl
+verdict-part (rejected code word) p d = inr refl
 
 transfer-part : (t : Transfer) (x : LongSector) → OnePart (transferEffect t x)
 transfer-part none x = inr refl
@@ -55,13 +55,13 @@ sector-part write lba sector = inr refl
 
 request-part : (r : Request) (s : Serving) (m : List ℕ) (d : Device) → OnePart (decideRequest r s m d .effect)
 unfolding decideKey decideData decideSector
-request-part statusRead s m d = either-part (d .locked) (decision d (refusedWith 0x0012) nothing) (decision d (good 0 0) (sending status)) (inr refl) (inl refl)
+request-part statusRead s m d = either-part (d .locked) (decision d (refusedWith 0x0012 0) nothing) (decision d (good 0 0) (sending status)) (inr refl) (inl refl)
 request-part keySector s m d =
     verdict-part (judgeKey (interrupt d) (dataOf m)) (s .port) (withKey (word (dataOf m) 0) (word (dataOf m) 1) (interrupt d))
 request-part (dataTransfer dir count) s m d =
     let t = pendingFor (s .port) d in
     let code = firstFailed (dataChecks (interrupt d .locked) dir count t) in
-    chosen-part code (decision (withCode 0x0000 (interrupt d)) (good 0 0) (transferEffect t (longDataOf m))) (decision (withCode code (interrupt d)) (refusedWith code) nothing)
+    chosen-part code (decision (withCode 0x0000 (interrupt d)) (good 0 0) (transferEffect t (longDataOf m))) (decision (withCode code (interrupt d)) (refusedWith code 0) nothing)
     (transfer-part t (longDataOf m))
     (inr refl)
 request-part (sectorAccess dir count lba) s m d =

@@ -199,7 +199,7 @@ registersPlaces = (2, 1, 0) ∷ (4, 1, 0) ∷ (6, 1, 0) ∷ (12, 1, 0) ∷ (13, 
 pub record ReplyAt (r : Registers) (m : List ℕ) : Type 0 where
   pub count : get 1 m 2 ≡ r .value % 256
   pub low : get 1 m 4 ≡ r .value / 256
-  pub mid : get 1 m 6 ≡ r .sectors
+  pub mid : get 1 m 6 ≡ r .lbaMid
   pub status : get 1 m 12 ≡ r .status
   pub error : get 1 m 13 ≡ r .error
   pub zero : (i : ℕ) → i < 16 → outside registersPlaces i ≡ true → getD m i 0 ≡ 0
@@ -208,7 +208,7 @@ pub record ReplyAt (r : Registers) (m : List ℕ) : Type 0 where
 -- the registers' values fit their bytes
 pub record RegistersFit (r : Registers) : Type 0 where
   pub value : r .value < 256 ^ 2
-  pub sectors : r .sectors < 256
+  pub lbaMid : r .lbaMid < 256
   pub status : r .status < 256
   pub error : r .error < 256
 
@@ -229,7 +229,7 @@ reply-length r s h = length-padded mailboxSize (registersBytes r ++ s) (rw (leng
 pub reply-at : (r : Registers) (s : List ℕ) → RegistersFit r → length s ≤ dataSize → ReplyAt r (replyBytes r s)
 unfolding registersBytes
 reply-at r s f h =
-    let fit : Fit (registersFields r) = (omega arith, (omega (arith, f .value), (f .sectors, (f .status, (f .error, tt))))) in
+    let fit : Fit (registersFields r) = (omega arith, (omega (arith, f .value), (f .lbaMid, (f .status, (f .error, tt))))) in
     let reads = reads-form registersSize (registersFields r) refl fit in
     let behind = s ++ zeros (mailboxSize - length (registersBytes r ++ s)) in
     let front : (at : ℕ) → at + 1 ≤ 16 → get 1 (replyBytes r s) at ≡ get 1 (registersBytes r) at =

@@ -1,77 +1,25 @@
--- Laws of the key sector, in document 01's words: which row decides, and what an accepted fill, timer or feature asks for.
+-- Laws of the key sector, in document 01's words: what an accepted fill, timer or feature asks for.
 use mathlib.Core.Path.{_≡_, refl, sym, ap, _∙_}
 use mathlib.Core.Bool.{Bool, true, false, not, _&&_, _||_}
-use mathlib.Core.Logic.{_⊎_, inl, inr}
-use Prim.Native.Nat.{ℕ, zero, suc, _+_, _-_, _*_, _/_, _%_, _^_, _≤_, _<_}
+use mathlib.Core.Logic.{inl, inr}
+use Prim.Native.Nat.{ℕ, _+_, _-_, _*_, _/_, _%_, _^_, _≤_, _<_}
 use native.Mathlib.Omega.{arith}
 use native.Mathlib.Decide.{decLt}
-use mathlib.Core.List.{List, [], _∷_, _++_}
-use lib.ListN.{length, getD, length-append}
-use lib.Dec.{eqb, leb, ltb}
-use borrow.Author.Tests.{eqb-true, eqb-false, ne-eqb, leb-true, ltb-true, not-true}
-use Rattle.wire.specs.Choice.{if_then_else_, between, Check, firstFailed}
-use Rattle.wire.specs.Numbers.{get}
-use Rattle.wire.specs.Parts.{part, repeated}
+use mathlib.Core.List.{List}
+use lib.ListN.{length, getD}
+use lib.Dec.{eqb}
+use borrow.Author.Tests.{eqb-false, ne-eqb, leb-true, ltb-true, not-true}
+use Rattle.wire.specs.Choice.{if_then_else_, between}
+use Rattle.wire.specs.Parts.{part}
 use Rattle.wire.specs.Bytes.{Bytes}
-use Rattle.wire.proofs.ChoiceLaws.{and-left, and-right, between-true, between-within, AllPass, Numbered, all-pass, first-decides}
+use Rattle.wire.proofs.ChoiceLaws.{between-true, between-within}
 use Rattle.wire.proofs.PartsLaws.{getD-part, part-repeated, length-repeated, length-part}
 use Rattle.wire.proofs.BytesLaws.{bytes-part, bytes-repeated, get-fits}
 use Rattle.model.specs.Sizes.{sectorSize}
 use Rattle.model.specs.Device.{Device}
-use Rattle.model.specs.Registers.{Direction, read, write}
-use Rattle.model.specs.Key.{word, start, count, longLba, lastLba, longChecks, fillChecks, timerChecks, highestState, featureChecks, tableChecks, actionChecks, keyChecks, FeatureName, writeCache, reordering, logInterval, Action, accessLong, fillPattern, fillSector, setTimer, returnTimer, setFeature, returnState, returnOption, sendTable, patternSector, fillEnd, directionOf, featureName, longAction, fillAction, timerAction, featureAction, actionOf, Verdict, accepted, rejected, verdict, judgeKey}
+use Rattle.model.specs.Key.{word, start, count, longLba, lastLba, longChecks, fillChecks, timerChecks, highestState, featureChecks, tableChecks, actionChecks, keyChecks, FeatureName, writeCache, reordering, logInterval, Action, accessLong, fillPattern, fillSector, setTimer, returnTimer, setFeature, returnState, returnOption, sendTable, patternSector, fillEnd, directionOf, featureName, longAction, fillAction, timerAction, featureAction, actionOf, accepted, judgeKey}
 use Rattle.model.specs.Valid.{TimerValid, Sized}
-
--- ---- which row decides
-
--- every code of the key table is between 1 and 12h
-pub key-codes : (d : Device) (k : List ℕ) → Numbered 0x12 (keyChecks d k)
-unfolding keyChecks
-key-codes d k = (omega arith, omega arith, (omega arith, omega arith, go (eqb (word k 0) 1) (eqb (word k 0) 2) (eqb (word k 0) 3) (eqb (word k 0) 4)))
-  where
-    timer-code : (b : Bool) → (0 < (if b then 0x0006 else 0x0007)) × ((if b then 0x0006 else 0x0007) ≤ 0x12)
-    timer-code true = (omega arith, omega arith)
-    timer-code false = (omega arith, omega arith)
-
-    go : (a b c e : Bool)
-        → Numbered 0x12
-        (if a then longChecks (d .visible) k
-        else if b
-        then fillChecks (d .visible) k
-        else if c
-        then timerChecks k
-        else if e
-        then featureChecks k
-        else tableChecks k)
-    go true b c e = (omega arith, omega arith, (omega arith, omega arith, tt))
-    go false true c e = (omega arith, omega arith, (omega arith, omega arith, (omega arith, omega arith, tt)))
-    go false false true e =
-        let t = timer-code (eqb (word k 2) 1) in
-        (omega arith, omega arith, (omega arith, omega arith, (t .0, t .1, tt)))
-    go false false false true = (omega arith, omega arith, (omega arith, omega arith, (omega arith, omega arith, (omega arith, omega arith, tt))))
-    go false false false false = (omega arith, omega arith, (omega arith, omega arith, tt))
-
--- "Checks, in order": the first row that fails gives the code.
-pub key-rejected : (d : Device) (k : List ℕ) (before : List Check) (code : ℕ) (rest : List Check)
-    → keyChecks d k ≡ before ++ (false, suc code) ∷ rest → AllPass before → judgeKey d k ≡ rejected (suc code)
-unfolding judgeKey
-key-rejected d k before code rest e p = ap (λ (cs : List Check). verdict (firstFailed cs) (actionOf (d .visible) k)) e ∙ rw (first-decides before (suc code) rest p)
-
-verdict-accepted : (n : ℕ) (a b : Action) → verdict n a ≡ accepted b → (n ≡ 0) × (a ≡ b)
-verdict-accepted zero a b e = (refl, cc)
-verdict-accepted (suc n) a b e = absurd (let z : _≡_ {A = ℕ} 0 1 = cc in omega arith)
-
--- an accepted key passes every row, and asks for what its words encode
-pub key-accepted : (d : Device) (k : List ℕ) (a : Action) → judgeKey d k ≡ accepted a → AllPass (keyChecks d k) × (a ≡ actionOf (d .visible) k)
-unfolding judgeKey
-key-accepted d k a e =
-    let w = verdict-accepted (firstFailed (keyChecks d k)) (actionOf (d .visible) k) a e in
-    (all-pass 0x12 (keyChecks d k) (key-codes d k) (w .0), sym (w .1))
-
--- the code of a refusal is the number of the row that failed
-pub verdict-rejected : (n : ℕ) (a : Action) (code : ℕ) → verdict n a ≡ rejected code → n ≡ code
-verdict-rejected zero a code e = cc
-verdict-rejected (suc n) a code e = cc
+use Rattle.model.proofs.KeyRows.{RowsPass, key-accepted}
 
 -- ---- fills
 
@@ -79,7 +27,7 @@ verdict-rejected (suc n) a code e = cc
 pub accepted-fill-sum : (d : Device) (k : List ℕ) (a : Action) → word k 0 ≡ 2 → judgeKey d k ≡ accepted a → start k + count k ≤ d .visible
 unfolding keyChecks
 accepted-fill-sum d k a two e =
-    let rows : AllPass (fillChecks (d .visible) k) = rw two at (key-accepted d k a e .0 .1 .1) in
+    let rows : RowsPass (fillChecks (d .visible) k) = rw two at (key-accepted d k a e .0 .1 .1) in
     let sum = leb-true (start k + count k) _ (rows .1 .1 .0) in
     omega (arith, sum)
 
@@ -156,7 +104,7 @@ highest-named n = go (eqb n 1) (eqb n 2)
     go false false = refl
 
 module _ (visible : ℕ) (k : List ℕ) (some : 1 ≤ visible) (size : length k ≡ sectorSize) (bytes : Bytes k) where
-  end-valid : AllPass (fillChecks visible k) → (start k < fillEnd visible k) × (fillEnd visible k ≤ visible)
+  end-valid : RowsPass (fillChecks visible k) → (start k < fillEnd visible k) × (fillEnd visible k ≤ visible)
   end-valid rows =
       let low = leb-true (start k) (lastLba visible) (rows .1 .0) in
       let sum = leb-true (start k + count k) _ (rows .1 .1 .0) in
@@ -167,7 +115,7 @@ module _ (visible : ℕ) (k : List ℕ) (some : 1 ≤ visible) (size : length k 
       go true e low sum = (omega arith, omega arith)
       go false e low sum = let some-count = eqb-false (count k) 0 e in (omega arith, omega arith)
 
-  fill-valid : AllPass (fillChecks visible k) → ActionValid visible (fillAction visible k)
+  fill-valid : RowsPass (fillChecks visible k) → ActionValid visible (fillAction visible k)
   fill-valid rows = go (eqb (word k 1) 1) (end-valid rows)
     where
       go : (b : Bool) → (start k < fillEnd visible k) × (fillEnd visible k ≤ visible)
@@ -182,7 +130,7 @@ module _ (visible : ℕ) (k : List ℕ) (some : 1 ≤ visible) (size : length k 
       )
       go false e = e
 
-  timer-valid : AllPass (timerChecks k) → ActionValid visible (timerAction k)
+  timer-valid : RowsPass (timerChecks k) → ActionValid visible (timerAction k)
   timer-valid rows = go (eqb (word k 1) 1) (between 1 (word k 3) 9) refl refl (not-true _ (rows .1 .1 .0))
     where
       go : (b c : Bool) → eqb (word k 1) 1 ≡ b → between 1 (word k 3) 9 ≡ c → (b && c) ≡ false
@@ -191,7 +139,7 @@ module _ (visible : ℕ) (k : List ℕ) (some : 1 ≤ visible) (size : length k 
       go true true p q e = absurd (let z : _≡_ {A = ℕ} 0 1 = cc in omega arith)
       go true false p q e = (timer-range (word k 3) q, get-fits 2 k 6 bytes)
 
-  feature-valid : AllPass (featureChecks k) → ActionValid visible (featureAction k)
+  feature-valid : RowsPass (featureChecks k) → ActionValid visible (featureAction k)
   feature-valid rows = go (eqb (word k 1) 1) (eqb (word k 1) 2) (rows .1 .1 .0)
     where
       go : (b c : Bool) → (not b || between 1 (word k 3) (highestState (word k 2))) ≡ true
@@ -205,12 +153,12 @@ module _ (visible : ℕ) (k : List ℕ) (some : 1 ≤ visible) (size : length k 
       go false false e = tt
 
   -- what the words of an accepted key ask for is in range
-  action-valid : AllPass (actionChecks visible k) → ActionValid visible (actionOf visible k)
+  action-valid : RowsPass (actionChecks visible k) → ActionValid visible (actionOf visible k)
   unfolding actionOf
   action-valid = go (eqb (word k 0) 1) (eqb (word k 0) 2) (eqb (word k 0) 3) (eqb (word k 0) 4)
     where
       go : (a b c e : Bool)
-          → AllPass
+          → RowsPass
           (if a then longChecks visible k
           else if b
           then fillChecks visible k

@@ -1,16 +1,15 @@
--- The key table of document 01, row by row: a key that passes the rows above and fails this one gets this code.
-use mathlib.Core.Path.{_≡_, refl, sym, ap, _∙_}
-use mathlib.Core.Bool.{Bool, true, false, not, _&&_, _||_}
-use Prim.Native.Nat.{ℕ, zero, suc, _+_, _-_, _≤_, _<_}
+-- The key table of document 01, row by row: a key that passes the rows above and fails this one gets this code, and (W-206) names this word.
+use mathlib.Core.Path.{_≡_, refl}
+use mathlib.Core.Bool.{true, false}
+use Prim.Native.Nat.{ℕ, _+_, _-_, _≤_, _<_}
 use native.Mathlib.Omega.{arith}
-use mathlib.Core.List.{List, [], _∷_}
-use lib.Dec.{eqb, leb}
-use borrow.Author.Tests.{eq-eqb, ne-eqb, lt-ltb, le-ltb, lt-leb, le-leb}
-use Rattle.wire.specs.Choice.{if_then_else_, between, firstFailed}
+use mathlib.Core.List.{List}
+use borrow.Author.Tests.{ne-eqb, lt-ltb, le-ltb, lt-leb, le-leb}
+use Rattle.wire.specs.Choice.{between}
 use Rattle.wire.specs.Numbers.{get}
 use Rattle.wire.proofs.ChoiceLaws.{between-true, between-within}
 use Rattle.model.specs.Device.{Device}
-use Rattle.model.specs.Key.{word, start, count, keyChecks, highestState, actionOf, Verdict, accepted, rejected, verdict, judgeKey}
+use Rattle.model.specs.Key.{word, start, count, keyChecks, highestState, actionOf, accepted, rejected, judgeKey}
 
 -- low ≤ x ≤ high, and its negation
 abbrev pub Within : ℕ → ℕ → ℕ → Type 0
@@ -21,7 +20,7 @@ Beyond low x high = between low x high ≡ false
 
 -- ---- the first row: any key, locked, gets 0012h
 
-pub key-locked : (d : Device) (k : List ℕ) → d .locked ≡ true → judgeKey d k ≡ rejected 0x0012
+pub key-locked : (d : Device) (k : List ℕ) → d .locked ≡ true → judgeKey d k ≡ rejected 0x0012 255
 unfolding judgeKey keyChecks
 key-locked d k locked = rw locked
 
@@ -72,78 +71,78 @@ states = (refl, refl, refl)
 
 module _ (d : Device) (k : List ℕ) (unlocked : d .locked ≡ false) where
   -- an action that is "not 2 to 5": 0010h; W-202: "01's check on actions becomes 1 to 5"
-  pub key-action : Beyond 1 (word k 0) 5 → judgeKey d k ≡ rejected 0x0010
+  pub key-action : Beyond 1 (word k 0) 5 → judgeKey d k ≡ rejected 0x0010 0
   unfolding judgeKey keyChecks
   key-action a = rw (unlocked, a)
 
   -- W-202: "function 000Ah, LBA 0002h after it"
   module _ (long : word k 0 ≡ 1) where
-    pub long-function : Beyond 1 (word k 1) 2 → judgeKey d k ≡ rejected 0x000A
+    pub long-function : Beyond 1 (word k 1) 2 → judgeKey d k ≡ rejected 0x000A 1
     unfolding judgeKey keyChecks
     long-function f = rw (unlocked, long, f)
 
-    pub long-lba : Within 1 (word k 1) 2 → d .visible ≤ get 8 k 4 → judgeKey d k ≡ rejected 0x0002
+    pub long-lba : Within 1 (word k 1) 2 → d .visible ≤ get 8 k 4 → judgeKey d k ≡ rejected 0x0002 2
     unfolding judgeKey keyChecks
     long-lba f h = rw (unlocked, long, f, le-ltb (get 8 k 4) (d .visible) h)
 
   -- "2 fill"
   module _ (fill : word k 0 ≡ 2) where
-    pub fill-function : Beyond 1 (word k 1) 2 → judgeKey d k ≡ rejected 0x0001
+    pub fill-function : Beyond 1 (word k 1) 2 → judgeKey d k ≡ rejected 0x0001 1
     unfolding judgeKey keyChecks
     fill-function f = rw (unlocked, fill, f)
 
-    pub fill-start : Within 1 (word k 1) 2 → d .visible - 1 < start k → judgeKey d k ≡ rejected 0x0002
+    pub fill-start : Within 1 (word k 1) 2 → d .visible - 1 < start k → judgeKey d k ≡ rejected 0x0002 2
     unfolding judgeKey keyChecks
     fill-start f h = rw (unlocked, fill, f, lt-leb (start k) (d .visible - 1) h)
 
-    pub fill-sum : Within 1 (word k 1) 2 → start k ≤ d .visible - 1 → d .visible < start k + count k → judgeKey d k ≡ rejected 0x0002
+    pub fill-sum : Within 1 (word k 1) 2 → start k ≤ d .visible - 1 → d .visible < start k + count k → judgeKey d k ≡ rejected 0x0002 6
     unfolding judgeKey keyChecks
     fill-sum f l h = rw (unlocked, fill, f, le-leb (start k) (d .visible - 1) l, lt-leb (start k + count k) (d .visible) h)
 
   -- "3 timers"
   module _ (timers : word k 0 ≡ 3) where
-    pub timer-function : Beyond 1 (word k 1) 2 → judgeKey d k ≡ rejected 0x0004
+    pub timer-function : Beyond 1 (word k 1) 2 → judgeKey d k ≡ rejected 0x0004 1
     unfolding judgeKey keyChecks
     timer-function f = rw (unlocked, timers, f)
 
-    pub timer-name : Within 1 (word k 1) 2 → Beyond 1 (word k 2) 2 → judgeKey d k ≡ rejected 0x0005
+    pub timer-name : Within 1 (word k 1) 2 → Beyond 1 (word k 2) 2 → judgeKey d k ≡ rejected 0x0005 2
     unfolding judgeKey keyChecks
     timer-name f n = rw (unlocked, timers, f, n)
 
     -- "set: word 3 in 100 ms, 1 to 9 gives 0006h (read) or 0007h (write)"
-    pub timer-read : word k 1 ≡ 1 → word k 2 ≡ 1 → Within 1 (word k 3) 9 → judgeKey d k ≡ rejected 0x0006
+    pub timer-read : word k 1 ≡ 1 → word k 2 ≡ 1 → Within 1 (word k 3) 9 → judgeKey d k ≡ rejected 0x0006 3
     unfolding judgeKey keyChecks
     timer-read f n v = rw (unlocked, timers, f, n, v)
 
-    pub timer-write : word k 1 ≡ 1 → word k 2 ≡ 2 → Within 1 (word k 3) 9 → judgeKey d k ≡ rejected 0x0007
+    pub timer-write : word k 1 ≡ 1 → word k 2 ≡ 2 → Within 1 (word k 3) 9 → judgeKey d k ≡ rejected 0x0007 3
     unfolding judgeKey keyChecks
     timer-write f n v = rw (unlocked, timers, f, n, v)
 
   -- "4 feature"
   module _ (feature : word k 0 ≡ 4) where
-    pub feature-function : Beyond 1 (word k 1) 3 → judgeKey d k ≡ rejected 0x000C
+    pub feature-function : Beyond 1 (word k 1) 3 → judgeKey d k ≡ rejected 0x000C 1
     unfolding judgeKey keyChecks
     feature-function f = rw (unlocked, feature, f)
 
-    pub feature-name : Within 1 (word k 1) 3 → Beyond 1 (word k 2) 3 → judgeKey d k ≡ rejected 0x000D
+    pub feature-name : Within 1 (word k 1) 3 → Beyond 1 (word k 2) 3 → judgeKey d k ≡ rejected 0x000D 2
     unfolding judgeKey keyChecks
     feature-name f n = rw (unlocked, feature, f, n)
 
     -- "set only: word 3 invalid 000Eh, then word 4 other than 0 or 1 000Fh"
-    pub feature-state : word k 1 ≡ 1 → Within 1 (word k 2) 3 → Beyond 1 (word k 3) (highestState (word k 2)) → judgeKey d k ≡ rejected 0x000E
+    pub feature-state : word k 1 ≡ 1 → Within 1 (word k 2) 3 → Beyond 1 (word k 3) (highestState (word k 2)) → judgeKey d k ≡ rejected 0x000E 3
     unfolding judgeKey keyChecks
     feature-state f n v = rw (unlocked, feature, f, n, v)
 
-    pub feature-option : word k 1 ≡ 1 → Within 1 (word k 2) 3 → Within 1 (word k 3) (highestState (word k 2)) → 1 < word k 4 → judgeKey d k ≡ rejected 0x000F
+    pub feature-option : word k 1 ≡ 1 → Within 1 (word k 2) 3 → Within 1 (word k 3) (highestState (word k 2)) → 1 < word k 4 → judgeKey d k ≡ rejected 0x000F 4
     unfolding judgeKey keyChecks
     feature-option f n v o = rw (unlocked, feature, f, n, v, lt-leb (word k 4) 1 o)
 
   -- "5 table"
   module _ (table : word k 0 ≡ 5) where
-    pub table-function : (word k 1 ≡ 1 → ⊥) → judgeKey d k ≡ rejected 0x0001
+    pub table-function : (word k 1 ≡ 1 → ⊥) → judgeKey d k ≡ rejected 0x0001 1
     unfolding judgeKey keyChecks
     table-function f = rw (unlocked, table, ne-eqb (word k 1) 1 f)
 
-    pub table-name : word k 1 ≡ 1 → (word k 2 ≡ 2 → ⊥) → judgeKey d k ≡ rejected 0x0011
+    pub table-name : word k 1 ≡ 1 → (word k 2 ≡ 2 → ⊥) → judgeKey d k ≡ rejected 0x0011 2
     unfolding judgeKey keyChecks
     table-name f n = rw (unlocked, table, f, ne-eqb (word k 2) 2 n)

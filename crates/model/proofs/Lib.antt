@@ -5,6 +5,7 @@ pub mod StepLaws
 pub mod FedLaws
 pub mod RefusalLaws
 pub mod KeyTable
+pub mod KeyRows
 pub mod KeyLaws
 pub mod AcceptedLaws
 pub mod SettingsLaws
@@ -23,6 +24,7 @@ pub mod WorkLaws
 pub mod WholeFill
 pub mod ValidDevice
 pub mod ValidRequest
+pub mod KeyReplies
 pub mod StateLaws
 pub mod EntryLaws
 pub mod EntryFormat

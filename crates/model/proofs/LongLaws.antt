@@ -244,7 +244,7 @@ module _ (s : Serving) (m n : List ℕ) (d : Device) where
         go (dataTransfer dir count) =
             let code = firstFailed (dataChecks (interrupt d .locked) dir count (pendingFor (s .port) d)) in
             ap
-            (λ (e : Effect). ifPassed code (decision (withCode 0x0000 (interrupt d)) (good 0 0) e) (decision (withCode code (interrupt d)) (refusedWith code) nothing))
+            (λ (e : Effect). ifPassed code (decision (withCode 0x0000 (interrupt d)) (good 0 0) e) (decision (withCode code (interrupt d)) (refusedWith code 0) nothing))
             (same-effect (pendingFor (s .port) d) (longDataOf m) (longDataOf n) same-data checks)
         go (sectorAccess dir count lba) = ap (λ (k : List ℕ). decideSector dir count lba k (interrupt d)) same-data
         go other = refl

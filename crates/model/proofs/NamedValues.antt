@@ -36,23 +36,23 @@ values = (refl, refl, refl)
 
 -- ---- replies
 
-pub record RegistersAre (r : Registers) (status error value sectors : ℕ) : Type 0 where
+pub record RegistersAre (r : Registers) (status error value lbaMid : ℕ) : Type 0 where
   pub isStatus : r .status ≡ status
   pub isError : r .error ≡ error
   pub isValue : r .value ≡ value
-  pub isSectors : r .sectors ≡ sectors
+  pub isMid : r .lbaMid ≡ lbaMid
 
 -- "Good: Status 50h, Error 0."
 pub good-registers : (value sectors : ℕ) → RegistersAre (good value sectors) 0x50 0 value sectors
-good-registers value sectors = record { isStatus = refl; isError = refl; isValue = refl; isSectors = refl }
+good-registers value sectors = record { isStatus = refl; isError = refl; isValue = refl; isMid = refl }
 
 -- "Refused: Status 51h"
 pub refused-registers : (error : ℕ) → RegistersAre (refused error) 0x51 error 0 0
-refused-registers error = record { isStatus = refl; isError = refl; isValue = refl; isSectors = refl }
+refused-registers error = record { isStatus = refl; isError = refl; isValue = refl; isMid = refl }
 
--- "SCT refusals have Error 04h and the extended code in Sector Count (low) and LBA Low (high)."
-pub code-registers : (code : ℕ) → RegistersAre (refusedWith code) 0x51 0x04 code 0
-code-registers code = record { isStatus = refl; isError = refl; isValue = refl; isSectors = refl }
+-- "SCT refusals have Error 04h and the extended code in Sector Count (low) and LBA Low (high)."; W-206: and the word in LBA Mid
+pub code-registers : (code word : ℕ) → RegistersAre (refusedWith code word) 0x51 0x04 code word
+code-registers code word = record { isStatus = refl; isError = refl; isValue = refl; isMid = refl }
 
 -- ---- a fill
 

@@ -91,8 +91,8 @@ module _ (s : Serving) (M : Machine) (m : List ℕ) (port : s .port < portCount)
 
   -- "A refused status read under the lock answers 0012h and stores nothing."
   pub serves-status-locked : requestOf m ≡ statusRead → M .device .locked ≡ true
-      → Serves s M (replyBytes (refusedWith 0x0012) []) (M .device) (M .disk)
-  serves-status-locked e locked = serves {c = decision (M .device) (refusedWith 0x0012) nothing} (decided statusRead e ∙ rw locked)
+      → Serves s M (replyBytes (refusedWith 0x0012 0) []) (M .device) (M .disk)
+  serves-status-locked e locked = serves {c = decision (M .device) (refusedWith 0x0012 0) nothing} (decided statusRead e ∙ rw locked)
 
   -- ---- key sector
 
@@ -108,10 +108,10 @@ module _ (s : Serving) (M : Machine) (m : List ℕ) (port : s .port < portCount)
   unfolding decideKey
   decided-key e v j = decided keySector e ∙ rw j
 
-  -- "both are recorded from every key, accepted or not"; "A refused key stores its code."
-  pub serves-key-refused : (code : ℕ) → requestOf m ≡ keySector → keyJudged ≡ rejected code
-      → Serves s M (replyBytes (refusedWith code) []) (withCode code keyed) (M .disk)
-  serves-key-refused code e j = serves (decided-key e (rejected code) j)
+  -- "both are recorded from every key, accepted or not"; "A refused key stores its code." W-206: "The key reply carries it in LBA Mid"
+  pub serves-key-refused : (code word : ℕ) → requestOf m ≡ keySector → keyJudged ≡ rejected code word
+      → Serves s M (replyBytes (refusedWith code word) []) (withCode code keyed) (M .disk)
+  serves-key-refused code word e j = serves (decided-key e (rejected code word) j)
 
   pub decided-accepted : requestOf m ≡ keySector → (a : Action) → keyJudged ≡ accepted a → decide s m (M .device) ≡ carryOut a p keyed
   decided-accepted e a j = decided-key e (accepted a) j
@@ -178,10 +178,10 @@ module _ (s : Serving) (M : Machine) (m : List ℕ) (port : s .port < portCount)
 
   -- "Each becomes the stored code."
   pub serves-data-refused : (dir : Direction) (count code : ℕ) → requestOf m ≡ dataTransfer dir count → dataCode dir count ≡ suc code
-      → Serves s M (replyBytes (refusedWith (suc code)) []) (withCode (suc code) (interrupt (M .device))) (M .disk)
+      → Serves s M (replyBytes (refusedWith (suc code) 0) []) (withCode (suc code) (interrupt (M .device))) (M .disk)
   unfolding decideData
   serves-data-refused dir count code e j =
-      serves {c = decision (withCode (suc code) (interrupt (M .device))) (refusedWith (suc code)) nothing}
+      serves {c = decision (withCode (suc code) (interrupt (M .device))) (refusedWith (suc code) 0) nothing}
       (decided-data dir count e ∙ rw (interrupt-kept (M .device), j))
 
   -- "E1h is judged: lock 0012h" ..
@@ -254,7 +254,7 @@ module _ (s : Serving) (M : Machine) (m : List ℕ) (port : s .port < portCount)
   -- Another port, or the other direction: 51h, 04h, 000Bh and a zero sector, and afterwards nothing is pending.
   pub serves-not-pending : (dir : Direction) (count : ℕ) → requestOf m ≡ dataTransfer dir count → M .device .locked ≡ false
       → moves dir (getD (M .device .command .pending) p none) ≡ false
-      → Serves s M (replyBytes (refusedWith 0x000B) []) (withCode 0x000B (interrupt (M .device))) (M .disk)
+      → Serves s M (replyBytes (refusedWith 0x000B 0) []) (withCode 0x000B (interrupt (M .device))) (M .disk)
       × (serveOn s M .state .device .command .pending ≡ nothingPending)
   unfolding interrupt
   serves-not-pending dir count e unlocked pends =

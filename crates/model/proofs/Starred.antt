@@ -22,12 +22,12 @@ pub starred-hold : map (λ (e : Example × List ℕ). evaluate (e .0)) starred �
 unfolding evaluate le get put form logPage smartLog requestOf keyChecks actionOf judgeKey repeated newMaximum sampled interrupt workCount work sectorStep writeSector carryOut decideKey decide sample powerOn
 starred-hold = refl
 
--- "Start 64, Count 0: 0002h", from the mailbox through take, serve and give to the mailbox of the reply
+-- "Start 64, Count 0: 0002h", with word 2, from the mailbox through take, serve and give to the mailbox of the reply
 pub end-to-end : map (λ (o : Outcome Machine). o .seen)
     (trace step (take 0 (keyMailbox (fillKey 64 0)) ∷ serve (record { port = 0 }) ∷ give 0 (zeros mailboxSize) ∷ []) (poweredOn (record { sectors = zeros (sectorSize * 64); checkArea = zeros (checkSize * 64) }) [] 0))
     ≡ answeredMailbox 0 (keyMailbox (fillKey 64 0))
     ∷ answerOnly 0
-    ∷ answeredMailbox 0 (form mailboxSize ((2, 1, 0x02) ∷ (12, 1, 0x51) ∷ (13, 1, 0x04) ∷ []))
+    ∷ answeredMailbox 0 (form mailboxSize ((2, 1, 0x02) ∷ (6, 1, 2) ∷ (12, 1, 0x51) ∷ (13, 1, 0x04) ∷ []))
     ∷ []
 unfolding le get put form padded logPage smartLog requestOf registersBytes replyBytes keyChecks actionOf judgeKey interrupt carryOut decideKey decide powerOn restored step served serveDecided poweredOn
 end-to-end = refl

@@ -17,13 +17,14 @@ use Rattle.model.specs.Device.{Fill, idle, running, Transfer, none, tabl
 use Rattle.model.specs.Disk.{LongSector}
 use Rattle.model.specs.Update.{withCode, withKey}
 use Rattle.model.specs.Registers.{Direction, read, write, Request, statusRead, keySector, dataTransfer, sectorAccess, other, dataOf, longDataOf, requestOf, Registers, good, refused, refusedWith}
-use Rattle.model.specs.Key.{word, FeatureName, writeCache, reordering, logInterval, Action, accessLong, fillPattern, fillSector, setTimer, returnTimer, setFeature, returnState, returnOption, sendTable, Verdict, accepted, rejected, keyChecks, actionOf, judgeKey}
+use Rattle.model.specs.Key.{word, FeatureName, writeCache, reordering, logInterval, Action, accessLong, fillPattern, fillSector, setTimer, returnTimer, setFeature, returnState, returnOption, sendTable, Verdict, accepted, rejected, judgeKey}
 use Rattle.model.specs.Fill.{interrupt}
 use Rattle.model.specs.Decide.{Serving, Writing, noWrite, oneSector, newFill, Sending, noData, status, temperatures, diskSector, storedSector, Effect, nothing, sending, Decision, decision, decideStatus, timer, feature, longTransfer, carryOut, decideVerdict, decideKey, dataChecks, transferEffect, decideData, sectorChecks, sectorEffect, decideSector, pendingFor, decideRequest, decide}
 use Rattle.model.specs.Machine.{Port, empty, request, reply, heldBytes}
 use Rattle.model.specs.Step.{isRequest}
 use Rattle.model.specs.Valid.{TransferValid, PendingValid, pendingCount, pendingLimit, SettingsValid, Valid, Sized, PortValid}
-use Rattle.model.proofs.KeyLaws.{key-codes, verdict-rejected, ActionValid, accepted-valid}
+use Rattle.model.proofs.KeyRows.{refusal-small}
+use Rattle.model.proofs.KeyLaws.{ActionValid, accepted-valid}
 use Rattle.model.proofs.FormatLaws.{RegistersFit}
 use Rattle.model.proofs.RequestLaws.{interrupt-kept}
 use Rattle.model.proofs.OwnerLaws.{Quiet, interrupt-quiet}
@@ -54,13 +55,13 @@ pub record DecisionValid (d : Device) (c : Decision) : Type 0 where
   pub sameFill : (c .device .command .fill ≡ idle) ⊎ (c .device .command .fill ≡ d .command .fill)
 
 good-fits : (value sectors : ℕ) → value < 256 ^ 2 → sectors < 256 → RegistersFit (good value sectors)
-good-fits value sectors h k = record { value = h; sectors = k; status = omega arith; error = omega arith }
+good-fits value sectors h k = record { value = h; lbaMid = k; status = omega arith; error = omega arith }
 
 refused-fits : (error : ℕ) → error < 256 → RegistersFit (refused error)
-refused-fits error h = record { value = omega arith; sectors = omega arith; status = omega arith; error = h }
+refused-fits error h = record { value = omega arith; lbaMid = omega arith; status = omega arith; error = h }
 
-code-fits : (code : ℕ) → code < 256 ^ 2 → RegistersFit (refusedWith code)
-code-fits code h = record { value = h; sectors = omega arith; status = omega arith; error = omega arith }
+pub code-fits : (code word : ℕ) → code < 256 ^ 2 → word < 256 → RegistersFit (refusedWith code word)
+code-fits code word h k = record { value = h; lbaMid = k; status = omega arith; error = omega arith }
 
 -- ---- values that a reply carries
 
@@ -127,13 +128,6 @@ module _ (d : Device) (p : ℕ) (v : Valid d) (q : Quiet d) where
   carry-valid sendTable k = still d _ _ (pending-valid p table d v q tt) one-pending (refl, refl) refl
 
 module _ (d : Device) (p : ℕ) (v : Valid d) (q : Quiet d) where
-  -- the code of a refused key is at most 12h
-  rejected-small : (k : List ℕ) (code : ℕ) → judgeKey d k ≡ rejected code → code ≤ 0x12
-  unfolding judgeKey
-  rejected-small k code e =
-      let same = verdict-rejected (firstFailed (keyChecks d k)) (actionOf (d .visible) k) code e in
-      omega (arith, first-bound 0x12 (keyChecks d k) (key-codes d k))
-
   key-decided : (k : List ℕ) → length k ≡ sectorSize → Bytes k → DecisionValid d (decideKey p k d)
   unfolding decideKey
   key-decided k size bytes = go (judgeKey d k) refl
@@ -152,9 +146,9 @@ module _ (d : Device) (p : ℕ) (v : Valid d) (q : Quiet d) where
           (record { noFill = q .noFill; noTransfer = q .noTransfer }) a
           (accepted-valid d k a (v .sizes .0) size bytes e) in
           record { deviceValid = w .deviceValid; effectValid = w .effectValid; fits = w .fits; sameSizes = w .sameSizes; sameFill = w .sameFill }
-      go (rejected code) e =
-          let small = rejected-small k code e in
-          still d _ _ (code-valid code recorded recorded-valid (q .noFill) (omega arith)) (code-fits code (omega arith)) (refl, refl) refl
+      go (rejected code named) e =
+          let small = refusal-small d k code named e in
+          still d _ _ (code-valid code recorded recorded-valid (q .noFill) (omega arith)) (code-fits code named (omega arith) (omega arith)) (refl, refl) refl
 
 -- ---- a transfer
 
@@ -183,9 +177,9 @@ module _ (d : Device) (v : Valid d) (x : LongSector) (whole : Sized sectorSize (
 
       go : (n : ℕ) → n ≤ 0x12
           → DecisionValid d
-          (ifPassed n (decision (withCode 0x0000 (interrupt d)) (good 0 0) (transferEffect t x)) (decision (withCode n (interrupt d)) (refusedWith n) nothing))
+          (ifPassed n (decision (withCode 0x0000 (interrupt d)) (good 0 0) (transferEffect t x)) (decision (withCode n (interrupt d)) (refusedWith n 0) nothing))
       go zero h = coded-valid d 0x0000 (good 0 0) (transferEffect t x) v (omega arith) plain (transfer-effect t k)
-      go (suc n) h = coded-valid d (suc n) (refusedWith (suc n)) nothing v (omega arith) (code-fits (suc n) (omega arith)) (tt, tt)
+      go (suc n) h = coded-valid d (suc n) (refusedWith (suc n) 0) nothing v (omega arith) (code-fits (suc n) 0 (omega arith) (omega arith)) (tt, tt)
 
   -- ---- one sector
 
@@ -273,8 +267,8 @@ not-owner d v p q = alone (d .command .pending) p q (omega (arith, v .commandVal
 status-decided : (d : Device) → Valid d → DecisionValid d (decideStatus d)
 status-decided d v = go (d .locked)
   where
-    go : (b : Bool) → DecisionValid d (if b then decision d (refusedWith 0x0012) nothing else decision d (good 0 0) (sending status))
-    go true = still d d _ v (code-fits 0x0012 (omega arith)) (refl, refl) refl
+    go : (b : Bool) → DecisionValid d (if b then decision d (refusedWith 0x0012 0) nothing else decision d (good 0 0) (sending status))
+    go true = still d d _ v (code-fits 0x0012 0 (omega arith) (omega arith)) (refl, refl) refl
     go false = record { deviceValid = v; effectValid = (tt, tt); fits = plain; sameSizes = (refl, refl); sameFill = inr refl }
 
 pub request-valid : (q : Request) (s : Serving) (m : List ℕ) (d : Device) → Valid d → Sized mailboxSize m → DecisionValid d (decideRequest q s m d)

@@ -61,7 +61,7 @@ decision d r e = record { device = d; registers = r; effect = e }
 
 -- "A refused status read under the lock answers 0012h and stores nothing."
 abbrev pub decideStatus : Device → Decision
-decideStatus d = if d .locked then decision d (refusedWith 0x0012) nothing else decision d (good 0 0) (sending status)
+decideStatus d = if d .locked then decision d (refusedWith 0x0012 0) nothing else decision d (good 0 0) (sending status)
 
 -- ---- key sector
 
@@ -114,10 +114,10 @@ carryOut (returnState f) p d = decision d (good (feature f (d .settings) .state)
 carryOut (returnOption f) p d = decision d (good (bit (feature f (d .settings) .persistent)) 0) nothing
 carryOut sendTable p d = decision (withPending (set (d .command .pending) p table) d) (good 0 1) nothing
 
--- "A refused key stores its code. An accepted key stores 0000h, a pattern fill FFFFh" (stored when it begins: Perform.antt).
+-- "A refused key stores its code" and replies its word too. "An accepted key stores 0000h, a pattern fill FFFFh" (stored when it begins: Perform.antt).
 abbrev pub decideVerdict : Verdict → ℕ → Device → Decision
 decideVerdict (accepted a) p d = carryOut a p (withCode 0x0000 d)
-decideVerdict (rejected code) p d = decision (withCode code d) (refusedWith code) nothing
+decideVerdict (rejected code word) p d = decision (withCode code d) (refusedWith code word) nothing
 
 -- "Words 0 and 1 are action and function; both are recorded from every key, accepted or not."
 unfoldable pub decideKey : ℕ → Sector → Device → Decision
@@ -161,7 +161,7 @@ transferEffect (writeLong lba) x = writing (oneSector lba x)
 unfoldable pub decideData : Direction → ℕ → Transfer → LongSector → Device → Decision
 decideData dir count t x d =
     let code = firstFailed (dataChecks (d .locked) dir count t) in
-    ifPassed code (decision (withCode 0x0000 d) (good 0 0) (transferEffect t x)) (decision (withCode code d) (refusedWith code) nothing)
+    ifPassed code (decision (withCode 0x0000 d) (good 0 0) (transferEffect t x)) (decision (withCode code d) (refusedWith code 0) nothing)
 
 -- ---- one sector
 

@@ -56,18 +56,19 @@ abbrev pub fillNumbers : Fill → List ℕ
 fillNumbers idle = 0 ∷ 0 ∷ 0 ∷ []
 fillNumbers (running first next end) = first ∷ next ∷ end ∷ []
 
--- Status, Error and value of a reply, then the stored code and the fill of the device after it
+-- Status, Error, value and LBA Mid of a reply, then the stored code and the fill of the device after it
 abbrev pub outcome : Registers → Device → List ℕ
-outcome r d = r .status ∷ r .error ∷ r .value ∷ d .command .code ∷ fillNumbers (d .command .fill)
+outcome r d = r .status ∷ r .error ∷ r .value ∷ r .lbaMid ∷ d .command .code ∷ fillNumbers (d .command .fill)
 
 abbrev pub acceptedKey : List ℕ
-acceptedKey = 0x50 ∷ 0 ∷ 0 ∷ 0x0000 ∷ 0 ∷ 0 ∷ 0 ∷ []
+acceptedKey = 0x50 ∷ 0 ∷ 0 ∷ 0 ∷ 0x0000 ∷ 0 ∷ 0 ∷ 0 ∷ []
 
 abbrev pub acceptedFill : ℕ → ℕ → List ℕ
-acceptedFill first end = 0x50 ∷ 0 ∷ 0 ∷ 0xFFFF ∷ first ∷ first ∷ end ∷ []
+acceptedFill first end = 0x50 ∷ 0 ∷ 0 ∷ 0 ∷ 0xFFFF ∷ first ∷ first ∷ end ∷ []
 
-abbrev pub refusedKey : ℕ → List ℕ
-refusedKey code = 0x51 ∷ 0x04 ∷ code ∷ code ∷ 0 ∷ 0 ∷ 0 ∷ []
+-- with its code and (W-206) its word
+abbrev pub refusedKey : ℕ → ℕ → List ℕ
+refusedKey code word = 0x51 ∷ 0x04 ∷ code ∷ word ∷ code ∷ 0 ∷ 0 ∷ 0 ∷ []
 
 -- the first bytes of four sectors
 abbrev pub firstBytes : Disk → List ℕ
@@ -91,20 +92,20 @@ abbrev pub starred : List (Example × List ℕ)
 starred =
     -- "Start 63, Count 0 accepted." "Start 64, Count 0: 0002h."
     (key (fillKey 63 0), acceptedFill 63 64)
-    ∷ (key (fillKey 64 0), refusedKey 0x0002)
+    ∷ (key (fillKey 64 0), refusedKey 0x0002 2)
     -- "Start 0, Count 63 accepted"; W-201: "Start 0 with Count 64 at V = 64 is now accepted ..; Count 65 is 0002h." "Start 1, Count 2^64-1: 0002h."
     ∷ (key (fillKey 0 63), acceptedFill 0 63)
     ∷ (key (fillKey 0 64), acceptedFill 0 64)
-    ∷ (key (fillKey 0 65), refusedKey 0x0002)
-    ∷ (key (fillKey 1 (2 ^ 64 - 1)), refusedKey 0x0002)
+    ∷ (key (fillKey 0 65), refusedKey 0x0002 6)
+    ∷ (key (fillKey 1 (2 ^ 64 - 1)), refusedKey 0x0002 6)
     -- "Action 1: 0010h."; W-202: "its example takes action 6"
-    ∷ (key (wordsKey 6 1 0 0 0), refusedKey 0x0010)
+    ∷ (key (wordsKey 6 1 0 0 0), refusedKey 0x0010 0)
     -- "Timer 9 for reads: 0006h; * 10 accepted; * 0 accepted."
-    ∷ (key (wordsKey 3 1 1 9 0), refusedKey 0x0006)
+    ∷ (key (wordsKey 3 1 1 9 0), refusedKey 0x0006 3)
     ∷ (key (wordsKey 3 1 1 10 0), acceptedKey)
     ∷ (key (wordsKey 3 1 1 0 0), acceptedKey)
     -- "Feature 3 with word 3 = 0 and word 4 = 2: 000Eh."
-    ∷ (key (wordsKey 4 1 3 0 2), refusedKey 0x000E)
+    ∷ (key (wordsKey 4 1 3 0 2), refusedKey 0x000E 3)
     -- "Maximum F6h, sample 05h: 05h."
     ∷ (maximum 0xF6 0x05, 0x05 ∷ 0x05 ∷ [])
     -- "Work 10 with 3 left: 3."

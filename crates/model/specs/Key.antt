@@ -1,9 +1,9 @@
 -- The key sector: its checks in the paper's order, and what an accepted key asks for.
-use mathlib.Core.Bool.{Bool, true, false, not, _&&_, _||_}
-use Prim.Native.Nat.{ℕ, zero, suc, _+_, _-_, _*_}
+use mathlib.Core.Bool.{Bool, not, _&&_, _||_}
+use Prim.Native.Nat.{ℕ, _+_, _-_, _*_}
 use mathlib.Core.List.{List, [], _∷_}
 use lib.Dec.{eqb, leb, ltb}
-use Rattle.wire.specs.Choice.{if_then_else_, between, Check, firstFailed}
+use Rattle.wire.specs.Choice.{if_then_else_, between}
 use Rattle.wire.specs.Numbers.{get}
 use Rattle.wire.specs.Parts.{part, repeated}
 use Rattle.model.specs.Device.{Device}
@@ -29,28 +29,33 @@ longLba k = get 8 k 4
 abbrev pub lastLba : ℕ → ℕ
 lastLba visible = visible - 1
 
--- ---- the checks: a row is what must hold, and the code given if it does not
+-- ---- the checks
+
+-- A row is what must hold, and what a key that fails it is refused with: the code, and (W-206) "the word that caused it: 0 action, 1 function, 2 to 4
+-- those words, 2 for Start or a Long LBA, 6 where the sum alone is at fault, 255 for the lock".
+abbrev pub KeyCheck : Type 0
+KeyCheck = Bool × ℕ × ℕ
 
 -- Action 1 (W-202): "functions 1 (read) and 2 (write)"; "function 000Ah, LBA 0002h after it"
-abbrev pub longChecks : ℕ → Sector → List Check
-longChecks visible k = (between 1 (word k 1) 2, 0x000A) ∷ (ltb (longLba k) visible, 0x0002) ∷ []
+abbrev pub longChecks : ℕ → Sector → List KeyCheck
+longChecks visible k = (between 1 (word k 1) 2, 0x000A, 1) ∷ (ltb (longLba k) visible, 0x0002, 2) ∷ []
 
 -- Action 2: "1 pattern, 2 sector; else 0001h"; then 0002h: "Refuse when Start is above the last user LBA, or when Count is not 0 and Start + Count
 -- exceeds the visible size." (W-201; with Count 0 the last row holds after the one before it.) "Start + Count is a whole-number sum; it never wraps."
-abbrev pub fillChecks : ℕ → Sector → List Check
+abbrev pub fillChecks : ℕ → Sector → List KeyCheck
 fillChecks visible k =
-    (between 1 (word k 1) 2, 0x0001)
-    ∷ (leb (start k) (lastLba visible), 0x0002)
-    ∷ (leb (start k + count k) visible, 0x0002)
+    (between 1 (word k 1) 2, 0x0001, 1)
+    ∷ (leb (start k) (lastLba visible), 0x0002, 2)
+    ∷ (leb (start k + count k) visible, 0x0002, 6)
     ∷ []
 
 -- Action 3: "1 set, 2 return; else 0004h"; "word 2 is 1 read or 2 write, else 0005h";
 -- "set: word 3 in 100 ms, 1 to 9 gives 0006h (read) or 0007h (write); 0 is off"
-abbrev pub timerChecks : Sector → List Check
+abbrev pub timerChecks : Sector → List KeyCheck
 timerChecks k =
-    (between 1 (word k 1) 2, 0x0004)
-    ∷ (between 1 (word k 2) 2, 0x0005)
-    ∷ (not (eqb (word k 1) 1 && between 1 (word k 3) 9), if eqb (word k 2) 1 then 0x0006 else 0x0007)
+    (between 1 (word k 1) 2, 0x0004, 1)
+    ∷ (between 1 (word k 2) 2, 0x0005, 2)
+    ∷ (not (eqb (word k 1) 1 && between 1 (word k 3) 9), if eqb (word k 2) 1 then 0x0006 else 0x0007, 3)
     ∷ []
 
 -- "each timer is 0 or at least 10"
@@ -68,20 +73,20 @@ statesNamed cache reordering interval =
 
 -- Action 4: "1 set, 2 state, 3 options; else 000Ch"; "word 2 is 1 to 3, else 000Dh";
 -- "set only: word 3 invalid 000Eh, then word 4 other than 0 or 1 000Fh"
-abbrev pub featureChecks : Sector → List Check
+abbrev pub featureChecks : Sector → List KeyCheck
 featureChecks k =
-    (between 1 (word k 1) 3, 0x000C)
-    ∷ (between 1 (word k 2) 3, 0x000D)
-    ∷ (not (eqb (word k 1) 1) || between 1 (word k 3) (highestState (word k 2)), 0x000E)
-    ∷ (not (eqb (word k 1) 1) || leb (word k 4) 1, 0x000F)
+    (between 1 (word k 1) 3, 0x000C, 1)
+    ∷ (between 1 (word k 2) 3, 0x000D, 2)
+    ∷ (not (eqb (word k 1) 1) || between 1 (word k 3) (highestState (word k 2)), 0x000E, 3)
+    ∷ (not (eqb (word k 1) 1) || leb (word k 4) 1, 0x000F, 4)
     ∷ []
 
 -- Action 5: "1; else 0001h"; "word 2 is 2, else 0011h"
-abbrev pub tableChecks : Sector → List Check
-tableChecks k = (eqb (word k 1) 1, 0x0001) ∷ (eqb (word k 2) 2, 0x0011) ∷ []
+abbrev pub tableChecks : Sector → List KeyCheck
+tableChecks k = (eqb (word k 1) 1, 0x0001, 1) ∷ (eqb (word k 2) 2, 0x0011, 2) ∷ []
 
 -- the remaining checks of an action
-abbrev pub actionChecks : ℕ → Sector → List Check
+abbrev pub actionChecks : ℕ → Sector → List KeyCheck
 actionChecks visible k =
     if eqb (word k 0) 1 then longChecks visible k
     else if eqb (word k 0) 2 then fillChecks visible k
@@ -90,8 +95,8 @@ actionChecks visible k =
     else tableChecks k
 
 -- The lock comes first, with 0012h; then an action that is not 1 to 5, with 0010h: W-202: "01's check on actions becomes 1 to 5".
-unfoldable pub keyChecks : Device → Sector → List Check
-keyChecks d k = (not (d .locked), 0x0012) ∷ (between 1 (word k 0) 5, 0x0010) ∷ actionChecks (d .visible) k
+unfoldable pub keyChecks : Device → Sector → List KeyCheck
+keyChecks d k = (not (d .locked), 0x0012, 255) ∷ (between 1 (word k 0) 5, 0x0010, 0) ∷ actionChecks (d .visible) k
 
 -- ---- what an accepted key asks for
 
@@ -152,16 +157,15 @@ actionOf visible k =
     else if eqb (word k 0) 4 then featureAction k
     else sendTable
 
--- A key is accepted with what it asks for, or refused with its code.
+-- A key is accepted with what it asks for, or refused with its code and (W-206) the word that caused it.
 pub data Verdict : Type 0 where
   accepted : Action → Verdict
-  rejected : ℕ → Verdict
+  rejected : ℕ → ℕ → Verdict
 
--- the code 0 means that no check failed
-abbrev pub verdict : ℕ → Action → Verdict
-verdict zero a = accepted a
-verdict (suc n) a = rejected (suc n)
+-- "Checks, in order": the first row that fails decides; a key that fails none is accepted
+abbrev pub judged : List KeyCheck → Action → Verdict
+judged [] a = accepted a
+judged (c ∷ cs) a = if c .0 then judged cs a else rejected (c .1) (c .2)
 
--- the first row that fails decides
 unfoldable pub judgeKey : Device → Sector → Verdict
-judgeKey d k = verdict (firstFailed (keyChecks d k)) (actionOf (d .visible) k)
+judgeKey d k = judged (keyChecks d k) (actionOf (d .visible) k)

@@ -101,29 +101,30 @@ requestOf m =
 
 -- ---- replies
 
--- value goes in Sector Count (low) and LBA Low (high), sectors in LBA Mid.
+-- value goes in Sector Count (low) and LBA Low (high). LBA Mid has the number of sectors that are pending, or the word that a refused key names.
 pub record Registers : Type 0 where
   pub status : ℕ
   pub error : ℕ
   pub value : ℕ
-  pub sectors : ℕ
+  pub lbaMid : ℕ
 
 -- "Good: Status 50h, Error 0." With a value asked for, and with the number of sectors that are pending.
 abbrev pub good : ℕ → ℕ → Registers
-good value sectors = record { status = 0x50; error = 0; value = value; sectors = sectors }
+good value sectors = record { status = 0x50; error = 0; value = value; lbaMid = sectors }
 
 -- "Refused: Status 51h"
 abbrev pub refused : ℕ → Registers
-refused error = record { status = 0x51; error = error; value = 0; sectors = 0 }
+refused error = record { status = 0x51; error = error; value = 0; lbaMid = 0 }
 
--- "SCT refusals have Error 04h and the extended code in Sector Count (low) and LBA Low (high)."
-abbrev pub refusedWith : ℕ → Registers
-refusedWith code = record { status = 0x51; error = 0x04; value = code; sectors = 0 }
+-- "SCT refusals have Error 04h and the extended code in Sector Count (low) and LBA Low (high)." W-206: of the word that caused it: "The key reply
+-- carries it in LBA Mid; E1h replies keep 0."
+abbrev pub refusedWith : ℕ → ℕ → Registers
+refusedWith code word = record { status = 0x51; error = 0x04; value = code; lbaMid = word }
 
 -- "In a reply every byte not named is 0"
 abbrev pub registersFields : Registers → List Field
 registersFields r =
-    (2, 1, r .value % 256) ∷ (4, 1, r .value / 256) ∷ (6, 1, r .sectors) ∷ (12, 1, r .status) ∷ (13, 1, r .error) ∷ []
+    (2, 1, r .value % 256) ∷ (4, 1, r .value / 256) ∷ (6, 1, r .lbaMid) ∷ (12, 1, r .status) ∷ (13, 1, r .error) ∷ []
 
 unfoldable pub registersBytes : Registers → List ℕ
 registersBytes r = form registersSize (registersFields r)

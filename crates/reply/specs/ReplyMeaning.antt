@@ -3,4 +3,4 @@ use Rattle.model.specs.Registers.{Registers}
 use Rattle.reply.specs.declared.registers as code
 
 abbrev pub asRegisters : code.Reply.Reply → Registers
-asRegisters r = record { status = r .status; error = r .error; value = r .value; sectors = r .sectors }
+asRegisters r = record { status = r .status; error = r .error; value = r .value; lbaMid = r .«lba_mid» }

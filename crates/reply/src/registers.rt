@@ -16,12 +16,12 @@ ghost use Rattle.reply.specs.ReplyMeaning.{asRegisters};
 // The number of values of a byte: the value's low and high byte are in two registers.
 const BYTE: u16 = 256;
 
-// `value` goes in Sector Count (low) and LBA Low (high), `sectors` in LBA Mid.
+// `value` goes in Sector Count (low) and LBA Low (high). LBA Mid has the number of sectors that are pending, or the word that a refused key names.
 pub struct Reply {
     pub status: u8,
     pub error: u8,
     pub value: u16,
-    pub sectors: u8,
+    pub lba_mid: u8,
 }
 
 // "Good: Status 50h, Error 0." With a value asked for, and with the number of sectors that are pending.
@@ -32,7 +32,7 @@ pub fn good(value: u16, sectors: u8) -> Reply
         status: ata::STATUS_GOOD,
         error: ata::NO_ERROR,
         value,
-        sectors,
+        lba_mid: sectors,
     }
 }
 
@@ -44,19 +44,20 @@ pub fn refused(error: u8) -> Reply
         status: ata::STATUS_REFUSED,
         error,
         value: 0,
-        sectors: 0,
+        lba_mid: 0,
     }
 }
 
-// "SCT refusals have Error 04h and the extended code in Sector Count (low) and LBA Low (high)."
-pub fn refused_with(code: u16) -> Reply
-    ensures { λ r. ⌜ asRegisters r ≡ refusedWith code ⌝ }
+// "SCT refusals have Error 04h and the extended code in Sector Count (low) and LBA Low (high)." W-206: of the word that caused it: "The key
+// reply carries it in LBA Mid; E1h replies keep 0."
+pub fn refused_with(code: u16, word: u8) -> Reply
+    ensures { λ r. ⌜ asRegisters r ≡ refusedWith code word ⌝ }
 {
     Reply {
         status: ata::STATUS_REFUSED,
         error: ata::ERROR_ABORTED,
         value: code,
-        sectors: 0,
+        lba_mid: word,
     }
 }
 
@@ -68,7 +69,7 @@ fn put_registers(area: &mut [u8], at: usize, r: Reply)
     zero_part(area, at, REGISTERS);
     put_u8(area, at + ata::COUNT_AT, (r.value % BYTE) as u8);
     put_u8(area, at + ata::LBA_LOW_AT, (r.value / BYTE) as u8);
-    put_u8(area, at + ata::LBA_MID_AT, r.sectors);
+    put_u8(area, at + ata::LBA_MID_AT, r.lba_mid);
     put_u8(area, at + ata::STATUS_AT, r.status);
     put_u8(area, at + ata::ERROR_AT, r.error);
 }

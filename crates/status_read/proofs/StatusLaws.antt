@@ -16,7 +16,7 @@ reply-by-lock d = go (d .locked)
     go true = refl
     go false = refl
 
-pub reply-locked : (d : Device) → d .locked ≡ true → statusReply d ≡ replyBytes (refusedWith 0x0012) []
+pub reply-locked : (d : Device) → d .locked ≡ true → statusReply d ≡ replyBytes (refusedWith 0x0012 0) []
 reply-locked d e = reply-by-lock d ∙ ap (λ (b : Bool). replyBy b d) e
 
 pub reply-unlocked : (d : Device) → d .locked ≡ false → statusReply d ≡ replyBytes (good 0 0) (statusSector d)

@@ -28,7 +28,7 @@ fn put_status_reply(area: &mut [u8], at: usize, d: Device)
     ensures { λ _. ⌜ ((h : List ℕ) → now (area .exit) ≡ sets (now (area .entry)) at (statusReply (asDevice d h))) ⌝ }
 {
     if d.locked {
-        put_reply(area, at, refused_with(sct::LOCKED));
+        put_reply(area, at, refused_with(sct::LOCKED, 0));
         return;
     }
     put_status(area, at, good(0, 0), d);

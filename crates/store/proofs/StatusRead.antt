@@ -30,10 +30,10 @@ use Rattle.store.specs.Entries.{withStage, ServeAfter, performed, serveC
 
 -- what is decided, and the reply: `decideStatus d` is `statusBy (d .locked) d`
 abbrev pub statusBy : Bool → Device → Decision
-statusBy locked d = if locked then decision d (refusedWith 0x0012) nothing else decision d (good 0 0) (sending status)
+statusBy locked d = if locked then decision d (refusedWith 0x0012 0) nothing else decision d (good 0 0) (sending status)
 
 abbrev pub replyBy : Bool → Device → Mailbox
-replyBy locked d = if locked then replyBytes (refusedWith 0x0012) [] else replyBytes (good 0 0) (statusSector d)
+replyBy locked d = if locked then replyBytes (refusedWith 0x0012 0) [] else replyBytes (good 0 0) (statusSector d)
 
 -- the stage changes, and the slot; nothing else of record, private area and disk
 abbrev pub answeredBy : Bool → ℕ → Contents → List ℕ → Disk → ServeAfter
@@ -52,7 +52,7 @@ status-performed false p c a disk = refl
 -- the reply is a whole slot
 reply-whole : (locked : Bool) (d : Device) → length (replyBy locked d) ≡ 1040
 unfolding statusSector
-reply-whole true d = reply-length (refusedWith 0x0012) [] (omega arith)
+reply-whole true d = reply-length (refusedWith 0x0012 0) [] (omega arith)
 reply-whole false d = reply-length (good 0 0) (statusSector d) (rw (length-form sectorSize (statusFields d)) (omega arith))
 
 -- ---- "The reply is the same whatever the slot's sector bytes held before."

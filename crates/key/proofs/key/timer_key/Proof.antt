@@ -2,8 +2,6 @@
 use Rattle.wire.proofs.ChoiceLaws.{passed, failed}
 use borrow.Author.Tests.{eq-eqb, ne-eqb}
 use mathlib.Core.Path.{_∙_, sym}
-use Rattle.model.specs.Key.{setTimer, directionOf}
-use Rattle.key.proofs.VerdictLaws.{timer-refused}
 use borrow.Author.Needs.{needs}
 use Rattle.key.proofs.key.timer_key.Statement.{statement}
 use Rattle.key.proofs.key.timer_key.Tie as tie
@@ -23,11 +21,18 @@ returns-3 c =
     let at-between2 = at-if2 .before in
     let at-if1 = at-between2 .before in
     let at-between = at-if1 .before in
-    let entry = at-between .before in
     λ k f n t.
-    let a = entry .args in
-    rw (f, passed (at-between .between .ensures) (at-if1 .if1 .left), n, passed (at-between2 .between2 .ensures) (at-if2 .if2 .left), eq-eqb _ _ (at-if3 .if3 .taken), t, sym (at-between3 .between3 .ensures) ∙ at-if4 .if4 .taken)
-    (timer-refused (a .name) (c .timer-code .result) (setTimer (directionOf (a .name)) (a .time)) (c .timer-code .ensures))
+    rw (
+      f,
+      passed (at-between .between .ensures) (at-if1 .if1 .left),
+      n,
+      passed (at-between2 .between2 .ensures) (at-if2 .if2 .left),
+      eq-eqb _ _ (at-if3 .if3 .taken),
+      t,
+      sym (at-between3 .between3 .ensures) ∙ at-if4 .if4 .taken,
+      c .timer-refusal .ensures .0,
+      c .timer-refusal .ensures .1,
+    )
 
 returns-4 : tie.Need-returns-4
 returns-4 c =
