@@ -124,19 +124,19 @@ uint32_t SCT_CALL sct_take(uint8_t *device, size_t device_length,
 /*
  * Carries out the request in the slot and leaves the reply there: held becomes
  * answered. A request that the disk refuses (Status 51h) is served: answer 0.
- * If it is a key sector, LBA Mid of its reply (byte 6 of the mailbox) names the
- * word of the key that was wrong:
- *   0         the action
- *   1         the function
- *   2         what is selected: timer, feature, table; or Start, or a Long LBA
- *   3         the value: a timer's or a feature's
- *   4         the option
- *   6         Count: Start is good, and Start + Count exceeds V
- *   255       none: the disk is locked
- * (docs/refused-keys.md, with the codes). Other refused requests have 0 there.
  * So is a sector read (24h) of a sector whose check bytes are not those of its
  * data: its reply has Error 40h and no data. Read Long sends the sector and its
  * check bytes as they are.
+ * The reply to a key sector that is refused has in LBA Mid (byte 6) the word of
+ * the key that was wrong; docs/refused-keys.md has the table with the codes:
+ *   0    the action
+ *   1    the function
+ *   2    what is selected: timer, feature or table; or Start, or a Long LBA
+ *   3    the value of a timer or of a feature
+ *   4    the option
+ *   6    Count: Start is good, and Start + Count exceeds V
+ *   255  none: the disk is locked
+ * Every other request that is refused has 0 there.
  * Refusals: 4; 2 private area, disk not N sectors, check area not 2 N bytes; 1;
  * 3 slot not held.
  * Changes: the record; this slot, and the fill sector where a fill begins; for

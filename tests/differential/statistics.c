@@ -125,6 +125,11 @@ static void print_requests(const struct statistics *s)
     }
 }
 
+bool statistics_rows_known(const struct statistics *s)
+{
+    return s->refused_keys[KEY_ROWS] == 0;
+}
+
 static void print_refused_keys(const struct statistics *s)
 {
     printf("\nkeys refused (by row of the key table: code, and the word in LBA Mid)\n");

@@ -18,4 +18,7 @@ struct statistics {
 void statistics_add(struct statistics *s, const struct step *step, const struct outcome *outcome);
 void statistics_print(const struct statistics *s);
 
+/* Whether every refused key had a code and word of the key table, which statistics.c states a second time. */
+bool statistics_rows_known(const struct statistics *s);
+
 #endif

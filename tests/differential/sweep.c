@@ -267,7 +267,7 @@ static bool try_key(struct pair *pair, struct statistics *s, const struct start 
     return false;
 }
 
-/* Every mixture of right and wrong words, on a free disk and on a locked one. */
+/* Every mixture of right and wrong words, on a free disk (by B0h) and on a locked one (by 3Fh). */
 bool sweep_keys(struct pair *pair, struct statistics *s)
 {
     static struct start start;

@@ -752,7 +752,7 @@ static void long_key_example(uint64_t visible, uint16_t function, uint64_t lba, 
     set_visible(visible);
     build_long(mail, LOG_EXT, function, lba);
     expect_key(what, wanted);
-    expect(what, mail[R_MID], wanted == 0x000A ? 1 : 2);    /* the function; the LBA, or two sectors are to follow */
+    expect(what, mail[R_MID], wanted == 0x000A ? 1 : 2);    /* word 1; else 2, the LBA's word or the sectors that follow */
     expect(what, stored_code(), wanted);
     expect(what, get16(status() + 16), 1);
     expect(what, get16(status() + 18), function);

@@ -33,7 +33,7 @@ fn completed(d: Device, t: Transfer) -> Decision
     }
 }
 
-// "E1h is judged", for a port that has t pending: the code is stored, 0000h if the transfer is completed.
+// "E1h is judged", for a port that has t pending: the code is stored, 0000h if the transfer is completed. W-206: "E1h replies keep 0" in LBA Mid.
 pub fn decide_data(d: Device, t: Transfer, dir: Direction, count: u16) -> Decision
     requires { ⌜ length (d .slots) ≡ portCount ⌝ }
     ensures { λ k. ⌜ ((m : List ℕ) (p : ℕ) → asTransfer t ≡ getD (pendingOf (d .slots)) p none → Decided m (λ x. decideData (asDirection dir) count (pendingFor p x) (longDataOf m) (interrupt x)) d k) ⌝ }

@@ -34,8 +34,8 @@ fn recorded(area: &[u8], at: usize, d: Device) -> Device
     )
 }
 
-// "Words 0 and 1 are action and function; both are recorded from every key, accepted or not." "A refused key stores its code" and replies its
-// word too (W-206). "An accepted key stores 0000h".
+// "Words 0 and 1 are action and function; both are recorded from every key, accepted or not." "A refused key stores its code", and has
+// its word in the reply (W-206). "An accepted key stores 0000h".
 pub fn decide_key(area: &[u8], p: usize, d: Device) -> Decision
     requires { ⌜ (length (now area) ≡ privateSize) × (p < portCount) × (length (d .slots) ≡ portCount) × (1 ≤ d .visible) ⌝ }
     ensures { λ k. ⌜ Decided (slotBytes p (now (area .entry))) (λ x. decideKey p (dataOf (slotBytes p (now (area .entry)))) (interrupt x)) d k ⌝ }

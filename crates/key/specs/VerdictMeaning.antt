@@ -24,7 +24,7 @@ abbrev pub asVerdict : key.Verdict.Verdict → List ℕ → Verdict
 asVerdict (Accepted a) sector = accepted (asAction a sector)
 asVerdict (Rejected r) sector = rejected (r .code) (r .word)
 
--- why a key is refused; zeros for an accepted one
+-- why a key is refused; for an accepted one, of which nobody asks it, zeros
 abbrev pub refusalOf : key.Verdict.Verdict → refusal.Refusal.Refusal
 refusalOf (Accepted a) = record { code = 0; word = 0 }
 refusalOf (Rejected r) = r

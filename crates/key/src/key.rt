@@ -38,7 +38,7 @@ pub enum Verdict {
     Rejected(Refusal),
 }
 
-// Why a key is refused; zeros for an accepted one.
+// Why a key is refused. For an accepted one, of which nobody asks it, zeros.
 pub fn refusal_of(key: Verdict) -> Refusal
     ensures { λ r. ⌜ r ≡ refusalOf key ⌝ }
 {
@@ -134,9 +134,9 @@ fn timer_refusal(name: u16) -> Refusal
     ensures { λ r. ⌜ (r .code ≡ (if eqb name 1 then 0x0006 else 0x0007)) × (r .word ≡ 3) ⌝ }
 {
     if name == sct::READ {
-        return Refusal::READ_TIMER;
+        return Refusal::TIMER_READ;
     }
-    Refusal::WRITE_TIMER
+    Refusal::TIMER_WRITE
 }
 
 // Action 3: "1 set, 2 return; else 0004h"; "word 2 is 1 read or 2 write, else 0005h";
@@ -148,7 +148,7 @@ fn timer_key(function: u16, name: u16, time: u16) -> Verdict
         return Verdict::Rejected(Refusal::TIMER_FUNCTION);
     }
     if !between(sct::READ, name, sct::WRITE) {
-        return Verdict::Rejected(Refusal::TIMER_SELECTION);
+        return Verdict::Rejected(Refusal::TIMER_NAME);
     }
     let dir = direction_of(name);
     if function == sct::TIMER_SET {
@@ -191,7 +191,7 @@ fn feature_set(feature: FeatureName, state: u16, option: u16) -> Verdict
     ensures { λ r. ⌜ ((sector : List ℕ) → asVerdict r sector ≡ judged ((leb option 1, 0x000F, 4) ∷ []) (setFeature (asFeatureName feature) state (eqb option 1))) ⌝ }
 {
     if option > 1 {
-        return Verdict::Rejected(Refusal::OPTION);
+        return Verdict::Rejected(Refusal::FEATURE_OPTION);
     }
     Verdict::Accepted(Action::SetFeature(feature, state, option == 1))
 }
@@ -215,12 +215,12 @@ fn feature_key(function: u16, name: u16, state: u16, option: u16) -> Verdict
         return Verdict::Rejected(Refusal::FEATURE_FUNCTION);
     }
     if !between(sct::WRITE_CACHE, name, sct::LOG_INTERVAL) {
-        return Verdict::Rejected(Refusal::FEATURE);
+        return Verdict::Rejected(Refusal::FEATURE_NAME);
     }
     let feature = feature_name(name);
     if function == sct::FEATURE_SET {
         if !between(1, state, highest_state(name)) {
-            return Verdict::Rejected(Refusal::STATE);
+            return Verdict::Rejected(Refusal::FEATURE_STATE);
         }
         return feature_set(feature, state, option);
     }
@@ -236,7 +236,7 @@ fn table_key(function: u16, name: u16) -> Verdict
         return Verdict::Rejected(Refusal::TABLE_FUNCTION);
     }
     if name != sct::HISTORY_TABLE {
-        return Verdict::Rejected(Refusal::TABLE);
+        return Verdict::Rejected(Refusal::TABLE_NAME);
     }
     Verdict::Accepted(Action::SendTable)
 }
@@ -248,11 +248,11 @@ pub fn read_key(area: &[u8], at: usize, locked: bool, visible: u64) -> Verdict
     ensures { λ r. ⌜ ((d : Device) → d .locked ≡ locked → d .visible ≡ visible → asVerdict r (patternSector (part (now (area .entry)) at sectorSize)) ≡ judgeKey d (part (now (area .entry)) at sectorSize)) ⌝ }
 {
     if locked {
-        return Verdict::Rejected(Refusal::LOCKED);
+        return Verdict::Rejected(Refusal::KEY_LOCKED);
     }
     let action = u16_at(area, at);
     if !between(sct::ACTION_LONG, action, sct::ACTION_TABLE) {
-        return Verdict::Rejected(Refusal::ACTION);
+        return Verdict::Rejected(Refusal::KEY_ACTION);
     }
     let function = u16_at(area, at + sct::FUNCTION_AT);
     if action == sct::ACTION_LONG {

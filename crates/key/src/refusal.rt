@@ -6,15 +6,15 @@ pub struct Refusal {
     pub word: u8,
 }
 
-// One for each row of the key table.
+// One for each row of the key table, with the name that its law has in model's KeyTable.
 impl Refusal {
     // "any, locked", which is no word of the key
-    pub const LOCKED: Refusal = Refusal {
+    pub const KEY_LOCKED: Refusal = Refusal {
         code: sct::LOCKED,
         word: sct::LOCK_WORD,
     };
 
-    pub const ACTION: Refusal = Refusal {
+    pub const KEY_ACTION: Refusal = Refusal {
         code: sct::INVALID_ACTION,
         word: sct::ACTION_WORD,
     };
@@ -52,17 +52,17 @@ impl Refusal {
         word: sct::FUNCTION_WORD,
     };
 
-    pub const TIMER_SELECTION: Refusal = Refusal {
+    pub const TIMER_NAME: Refusal = Refusal {
         code: sct::INVALID_TIMER_SELECTION,
         word: sct::SELECTION_WORD,
     };
 
-    pub const READ_TIMER: Refusal = Refusal {
+    pub const TIMER_READ: Refusal = Refusal {
         code: sct::READ_TIMER_BELOW_MINIMUM,
         word: sct::VALUE_WORD,
     };
 
-    pub const WRITE_TIMER: Refusal = Refusal {
+    pub const TIMER_WRITE: Refusal = Refusal {
         code: sct::WRITE_TIMER_BELOW_MINIMUM,
         word: sct::VALUE_WORD,
     };
@@ -73,17 +73,17 @@ impl Refusal {
         word: sct::FUNCTION_WORD,
     };
 
-    pub const FEATURE: Refusal = Refusal {
+    pub const FEATURE_NAME: Refusal = Refusal {
         code: sct::INVALID_FEATURE,
         word: sct::SELECTION_WORD,
     };
 
-    pub const STATE: Refusal = Refusal {
+    pub const FEATURE_STATE: Refusal = Refusal {
         code: sct::INVALID_STATE,
         word: sct::VALUE_WORD,
     };
 
-    pub const OPTION: Refusal = Refusal {
+    pub const FEATURE_OPTION: Refusal = Refusal {
         code: sct::INVALID_OPTION,
         word: sct::OPTION_WORD,
     };
@@ -94,7 +94,7 @@ impl Refusal {
         word: sct::FUNCTION_WORD,
     };
 
-    pub const TABLE: Refusal = Refusal {
+    pub const TABLE_NAME: Refusal = Refusal {
         code: sct::INVALID_TABLE,
         word: sct::SELECTION_WORD,
     };

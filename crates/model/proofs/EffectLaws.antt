@@ -40,7 +40,7 @@ carried-part sendTable p d = inr refl
 
 verdict-part : (v : Verdict) (p : ℕ) (d : Device) → OnePart (decideVerdict v p d .effect)
 verdict-part (accepted a) p d = carried-part a p (withCode 0x0000 d)
-verdict-part (rejected code word) p d = inr refl
+verdict-part (rejected code named) p d = inr refl
 
 transfer-part : (t : Transfer) (x : LongSector) → OnePart (transferEffect t x)
 transfer-part none x = inr refl

@@ -226,23 +226,34 @@ pub reply-length : (r : Registers) (s : List ℕ) → length s ≤ dataSize → 
 unfolding replyBytes
 reply-length r s h = length-padded mailboxSize (registersBytes r ++ s) (rw (length-append, length-registers r) (omega arith))
 
+-- a register of a reply, whatever the data
+reply-front : (r : Registers) (s : List ℕ) (at : ℕ) → at + 1 ≤ 16 → get 1 (replyBytes r s) at ≡ get 1 (registersBytes r) at
+reply-front r s at b =
+    ap (λ (m : List ℕ). get 1 m at) (reply-split r s)
+    ∙ get-append-left 1 (registersBytes r) (s ++ zeros (mailboxSize - length (registersBytes r ++ s))) at (rw (length-registers r) b)
+
+registers-read : (r : Registers) → RegistersFit r → Reads (registersFields r) (registersBytes r)
+unfolding registersBytes
+registers-read r f =
+    let fit : Fit (registersFields r) = (omega arith, (omega (arith, f .value), (f .lbaMid, (f .status, (f .error, tt))))) in
+    reads-form registersSize (registersFields r) refl fit
+
+pub reply-mid : (r : Registers) (s : List ℕ) → RegistersFit r → get 1 (replyBytes r s) 6 ≡ r .lbaMid
+reply-mid r s f = reply-front r s 6 (omega arith) ∙ registers-read r f .1 .1 .0
+
 pub reply-at : (r : Registers) (s : List ℕ) → RegistersFit r → length s ≤ dataSize → ReplyAt r (replyBytes r s)
 unfolding registersBytes
 reply-at r s f h =
-    let fit : Fit (registersFields r) = (omega arith, (omega (arith, f .value), (f .lbaMid, (f .status, (f .error, tt))))) in
-    let reads = reads-form registersSize (registersFields r) refl fit in
-    let behind = s ++ zeros (mailboxSize - length (registersBytes r ++ s)) in
-    let front : (at : ℕ) → at + 1 ≤ 16 → get 1 (replyBytes r s) at ≡ get 1 (registersBytes r) at =
-    λ at b. ap (λ (m : List ℕ). get 1 m at) (reply-split r s) ∙ get-append-left 1 (registersBytes r) behind at (rw (length-registers r) b) in
+    let reads = registers-read r f in
     record {
-      count = front 2 (omega arith) ∙ reads .0;
-      low = front 4 (omega arith) ∙ reads .1 .0;
-      mid = front 6 (omega arith) ∙ reads .1 .1 .0;
-      status = front 12 (omega arith) ∙ reads .1 .1 .1 .0;
-      error = front 13 (omega arith) ∙ reads .1 .1 .1 .1 .0;
+      count = reply-front r s 2 (omega arith) ∙ reads .0;
+      low = reply-front r s 4 (omega arith) ∙ reads .1 .0;
+      mid = reply-mid r s f;
+      status = reply-front r s 12 (omega arith) ∙ reads .1 .1 .1 .0;
+      error = reply-front r s 13 (omega arith) ∙ reads .1 .1 .1 .1 .0;
       zero = λ i b o.
           ap (λ (m : List ℕ). getD m i 0) (reply-split r s)
-          ∙ List·getD-append (registersBytes r) behind 0 i (rw (length-registers r) b)
+          ∙ List·getD-append (registersBytes r) (s ++ zeros (mailboxSize - length (registersBytes r ++ s))) 0 i (rw (length-registers r) b)
           ∙ form-outside registersSize (registersFields r) i o;
       size = reply-length r s h;
     }

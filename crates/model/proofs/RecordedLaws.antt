@@ -41,7 +41,7 @@ module _ (s : Serving) (M : Machine) (m : List ℕ) (port : s .port < portCount)
       set-feature logInterval n keep j = from _ (serves-set-feature s M m port held logInterval n keep e j .deviceAfter) refl refl
 
       go : (v : Verdict) → keyJudged s M m port held ≡ v → Recorded (serveOn s M .state .device) (get 2 m 16) (get 2 m 18)
-      go (rejected code word) j = from _ (serves-key-refused s M m port held code word e j .deviceAfter) refl refl
+      go (rejected code named) j = from _ (serves-key-refused s M m port held code named e j .deviceAfter) refl refl
       go (accepted (accessLong dir lba)) j = from _ (serves-access-long s M m port held dir lba e j .deviceAfter) refl refl
       go (accepted (fillPattern first end sector)) j = from _ (serves-pattern s M m port held first end sector e j .deviceAfter) refl refl
       go (accepted (fillSector first end)) j = from _ (serves-fill-sector s M m port held first end e j .deviceAfter) refl refl

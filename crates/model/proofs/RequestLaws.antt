@@ -109,9 +109,9 @@ module _ (s : Serving) (M : Machine) (m : List ℕ) (port : s .port < portCount)
   decided-key e v j = decided keySector e ∙ rw j
 
   -- "both are recorded from every key, accepted or not"; "A refused key stores its code." W-206: "The key reply carries it in LBA Mid"
-  pub serves-key-refused : (code word : ℕ) → requestOf m ≡ keySector → keyJudged ≡ rejected code word
-      → Serves s M (replyBytes (refusedWith code word) []) (withCode code keyed) (M .disk)
-  serves-key-refused code word e j = serves (decided-key e (rejected code word) j)
+  pub serves-key-refused : (code named : ℕ) → requestOf m ≡ keySector → keyJudged ≡ rejected code named
+      → Serves s M (replyBytes (refusedWith code named) []) (withCode code keyed) (M .disk)
+  serves-key-refused code named e j = serves (decided-key e (rejected code named) j)
 
   pub decided-accepted : requestOf m ≡ keySector → (a : Action) → keyJudged ≡ accepted a → decide s m (M .device) ≡ carryOut a p keyed
   decided-accepted e a j = decided-key e (accepted a) j

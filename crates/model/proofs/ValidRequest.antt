@@ -57,7 +57,7 @@ pub record DecisionValid (d : Device) (c : Decision) : Type 0 where
 good-fits : (value sectors : ℕ) → value < 256 ^ 2 → sectors < 256 → RegistersFit (good value sectors)
 good-fits value sectors h k = record { value = h; lbaMid = k; status = omega arith; error = omega arith }
 
-refused-fits : (error : ℕ) → error < 256 → RegistersFit (refused error)
+pub refused-fits : (error : ℕ) → error < 256 → RegistersFit (refused error)
 refused-fits error h = record { value = omega arith; lbaMid = omega arith; status = omega arith; error = h }
 
 pub code-fits : (code word : ℕ) → code < 256 ^ 2 → word < 256 → RegistersFit (refusedWith code word)

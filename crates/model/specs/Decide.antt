@@ -59,7 +59,7 @@ decision d r e = record { device = d; registers = r; effect = e }
 
 -- ---- status
 
--- "A refused status read under the lock answers 0012h and stores nothing."
+-- "A refused status read under the lock answers 0012h and stores nothing." It is no key, so it names no word.
 abbrev pub decideStatus : Device → Decision
 decideStatus d = if d .locked then decision d (refusedWith 0x0012 0) nothing else decision d (good 0 0) (sending status)
 
@@ -114,10 +114,10 @@ carryOut (returnState f) p d = decision d (good (feature f (d .settings) .state)
 carryOut (returnOption f) p d = decision d (good (bit (feature f (d .settings) .persistent)) 0) nothing
 carryOut sendTable p d = decision (withPending (set (d .command .pending) p table) d) (good 0 1) nothing
 
--- "A refused key stores its code" and replies its word too. "An accepted key stores 0000h, a pattern fill FFFFh" (stored when it begins: Perform.antt).
+-- "A refused key stores its code", and has its word in the reply (W-206). "An accepted key stores 0000h, a pattern fill FFFFh" (stored when it begins: Perform.antt).
 abbrev pub decideVerdict : Verdict → ℕ → Device → Decision
 decideVerdict (accepted a) p d = carryOut a p (withCode 0x0000 d)
-decideVerdict (rejected code word) p d = decision (withCode code d) (refusedWith code word) nothing
+decideVerdict (rejected code named) p d = decision (withCode code d) (refusedWith code named) nothing
 
 -- "Words 0 and 1 are action and function; both are recorded from every key, accepted or not."
 unfoldable pub decideKey : ℕ → Sector → Device → Decision
@@ -157,7 +157,7 @@ transferEffect (fillData first end) x = writing (newFill first end (x .content))
 transferEffect (readLong lba) x = sending (storedSector lba)
 transferEffect (writeLong lba) x = writing (oneSector lba x)
 
--- "Each becomes the stored code." "A completed transfer stores 0000h, or FFFFh where it starts a fill."
+-- "Each becomes the stored code." "A completed transfer stores 0000h, or FFFFh where it starts a fill." W-206: "E1h replies keep 0" in LBA Mid.
 unfoldable pub decideData : Direction → ℕ → Transfer → LongSector → Device → Decision
 decideData dir count t x d =
     let code = firstFailed (dataChecks (d .locked) dir count t) in

@@ -116,8 +116,8 @@ good value sectors = record { status = 0x50; error = 0; value = value; lbaMid = 
 abbrev pub refused : ℕ → Registers
 refused error = record { status = 0x51; error = error; value = 0; lbaMid = 0 }
 
--- "SCT refusals have Error 04h and the extended code in Sector Count (low) and LBA Low (high)." W-206: of the word that caused it: "The key reply
--- carries it in LBA Mid; E1h replies keep 0."
+-- "SCT refusals have Error 04h and the extended code in Sector Count (low) and LBA Low (high)." W-206, of "the word that caused it": "The key
+-- reply carries it in LBA Mid; E1h replies keep 0." The word is 0 for all but a key.
 abbrev pub refusedWith : ℕ → ℕ → Registers
 refusedWith code word = record { status = 0x51; error = 0x04; value = code; lbaMid = word }
 

@@ -48,8 +48,8 @@ pub fn refused(error: u8) -> Reply
     }
 }
 
-// "SCT refusals have Error 04h and the extended code in Sector Count (low) and LBA Low (high)." W-206: of the word that caused it: "The key
-// reply carries it in LBA Mid; E1h replies keep 0."
+// "SCT refusals have Error 04h and the extended code in Sector Count (low) and LBA Low (high)." W-206, of "the word that caused it": "The key
+// reply carries it in LBA Mid; E1h replies keep 0." The word is 0 for all but a key.
 pub fn refused_with(code: u16, word: u8) -> Reply
     ensures { λ r. ⌜ asRegisters r ≡ refusedWith code word ⌝ }
 {
