@@ -11,7 +11,7 @@ returns c =
     let at-refused-with = at-put-reply .before in
     let at-if1 = at-refused-with .before .before in
     let d = at-if1 .before .before .args .d in
-    λ h. rw (reply-locked (asDevice d h) (at-if1 .if1 .taken), ← at-refused-with .refused-with .ensures) (at-put-reply .put-reply .ensures)
+    λ h. rw (reply-locked (asDevice d h) (at-if1 .if1 .taken)) (rw (at-refused-with .refused-with .ensures) at (at-put-reply .put-reply .ensures))
 
 returns-2 : tie.Need-returns-2
 returns-2 c =
