@@ -10,16 +10,14 @@
  * decides, and writes it back. In one row the reference's column has memcpy, in
  * another a plain C loop over the bits of a sector, which makes its check.
  */
-#define _POSIX_C_SOURCE 200809L
-
 #include <stdio.h>
 #include <stdlib.h>
 #include <string.h>
-#include <time.h>
 
 #include "bytes.h"
 #include "implementation.h"
 #include "layout.h"
+#include "measure.h"
 #include "random.h"
 #include "request.h"
 
@@ -32,14 +30,6 @@ static uint8_t  check_area[(size_t)SECTORS * SCT_CHECK_BYTES];
 static uint8_t  request[SCT_MAILBOX_BYTES], second[SCT_MAILBOX_BYTES], reply[SCT_MAILBOX_BYTES];
 static uint8_t  image[SCT_IMAGE_LIMIT];
 static uint64_t image_used;
-
-static double nanoseconds_now(void)
-{
-    struct timespec t;
-
-    clock_gettime(CLOCK_MONOTONIC, &t);
-    return (double)t.tv_sec * 1e9 + (double)t.tv_nsec;
-}
 
 static void expect_done(uint32_t answer)
 {
@@ -325,19 +315,6 @@ static const struct {
 enum { MEASURES = sizeof measures / sizeof measures[0] };
 
 static double results[MEASURES][2][MOST_ROUNDS];
-
-static int compare(const void *a, const void *b)
-{
-    double x = *(const double *)a, y = *(const double *)b;
-
-    return (x > y) - (x < y);
-}
-
-static double median(double *values, unsigned count)
-{
-    qsort(values, count, sizeof *values, compare);
-    return values[count / 2];
-}
 
 static void run_rounds(unsigned rounds)
 {

@@ -9,7 +9,7 @@
  *               first.
  *   area        4,672 bytes: the private area, with four request slots and the
  *               fill sector. Opaque; no core may see it.
- *   disk        1 to 65,536 sectors. Its length at power-on gives the native
+ *   disk        1 to 16,777,216 sectors. Its length at power-on gives the native
  *               size N. The visible size V is 1 to N.
  *   check_area  two bytes for each of the N sectors, its check: bits 0 to 11
  *               are the exclusive or of the positions (8 times byte plus bit)
@@ -75,22 +75,26 @@ extern "C" {
 
 /* ---- Sizes --------------------------------------------------------------- */
 
-#define SCT_PORTS            4u      /* ports are 0 to 3 */
-#define SCT_SECTOR_BYTES     512u
-#define SCT_CHECK_BYTES      2u      /* of a sector, in the check area */
+/*
+ * The sizes of a sector and of its check have 64 bits, so that a product with a
+ * number of sectors does not wrap: a disk of 8 GiB has 2^33 bytes.
+ */
+#define SCT_PORTS            4u        /* ports are 0 to 3 */
+#define SCT_SECTOR_BYTES     512ull
+#define SCT_CHECK_BYTES      2ull      /* of a sector, in the check area */
 #define SCT_REGISTER_BYTES   16u
-#define SCT_DATA_BYTES       1024u   /* two sectors */
-#define SCT_MAILBOX_BYTES    1040u   /* registers, then data */
-#define SCT_PRIVATE_BYTES    4672u   /* four slots, then the fill sector */
+#define SCT_DATA_BYTES       1024u     /* two sectors */
+#define SCT_MAILBOX_BYTES    1040u     /* registers, then data */
+#define SCT_PRIVATE_BYTES    4672u     /* four slots, then the fill sector */
 #define SCT_RECORD_BYTES     1024u
-#define SCT_ENTRY_BYTES      560u    /* one saved entry */
+#define SCT_ENTRY_BYTES      560u      /* one saved entry */
 #define SCT_ENTRIES_LIMIT    117u
-#define SCT_IMAGE_LIMIT      65520u  /* 117 entries */
-#define SCT_NATIVE_LIMIT     65536u  /* sectors */
-#define SCT_FORM_1           1u      /* entries without timers */
-#define SCT_FORM_2           2u      /* with them */
-#define SCT_STACK_BYTES      648u    /* of stack, for any call */
-#define SCT_STACK_AT_MEMSET  504u    /* of these, in use where memset begins */
+#define SCT_IMAGE_LIMIT      65520u    /* 117 entries */
+#define SCT_NATIVE_LIMIT     16777216u /* sectors */
+#define SCT_FORM_1           1u        /* entries without timers */
+#define SCT_FORM_2           2u        /* with them */
+#define SCT_STACK_BYTES      648u      /* of stack, for any call */
+#define SCT_STACK_AT_MEMSET  504u      /* of these, in use where memset begins */
 
 /* ---- Answers ------------------------------------------------------------- */
 
@@ -256,8 +260,8 @@ uint32_t SCT_CALL sct_save(const uint8_t *device, size_t device_length,
  * setup tool that relied on 0, no limit, must set 0 itself.
  * What the record held is not judged. Of disk and check area only the lengths
  * are used: check bytes are neither judged nor computed.
- * Refusals: 2 record, private area, disk not 1 to 65,536 whole sectors, check
- * area not two bytes for each, used exceeds the image; 6; 7.
+ * Refusals: 2 record, private area, disk not 1 to 16,777,216 whole sectors,
+ * check area not two bytes for each, used exceeds the image; 6; 7.
  * Changes: the record, and the private area, which becomes zeros.
  */
 uint32_t SCT_CALL sct_power_on(uint8_t *device, size_t device_length,

@@ -227,7 +227,7 @@ void random_record(struct random *r, uint8_t *record, uint64_t native)
 /* A number that some rule compares sector numbers with, or one next to it. */
 static uint64_t limit_of_sectors(struct random *r, const struct record_fields *f)
 {
-    const uint64_t limits[] = { 0, f->native, f->visible, f->first, f->next, f->end, SCT_NATIVE_LIMIT, 1u << 24 };
+    const uint64_t limits[] = { 0, f->native, f->visible, f->first, f->next, f->end, 65536, SCT_NATIVE_LIMIT };
     uint64_t limit = PICK(r, limits);
 
     return limit + below(r, 3) - 1;

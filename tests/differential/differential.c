@@ -16,7 +16,6 @@
  */
 #define _POSIX_C_SOURCE 200809L
 
-#include <signal.h>
 #include <stdlib.h>
 #include <string.h>
 #include <time.h>
@@ -25,6 +24,7 @@
 #include "generate.h"
 #include "statistics.h"
 #include "sweep.h"
+#include "watch.h"
 
 struct options {
     uint64_t seed, lists, steps, seconds, only;
@@ -37,31 +37,11 @@ enum { SHORT_LISTS = 40000, LONG_LISTS = 500000, LIST_TIME_LIMIT = 120 };
 
 static volatile uint64_t place_seed, place_list, place_step;    /* step 0: in the sweeps */
 
-/* Only what a signal handler may do. */
-static void put_text(const char *text)
+static void print_place(void)
 {
-    if (write(STDOUT_FILENO, text, strlen(text)) < 0)
-        _exit(1);
-}
-
-static void put_number(uint64_t number)
-{
-    char digits[24];
-    char *at = digits + sizeof digits;
-
-    *--at = '\0';
-    do
-        *--at = (char)('0' + number % 10);
-    while ((number /= 10) != 0);
-    put_text(at);
-}
-
-static void on_signal(int signal)
-{
-    put_text(signal == SIGALRM ? "\na call does not return" : "\na call touched memory that it was not given");
     if (place_step == 0) {
         put_text(", in a sweep\n");
-        _exit(1);
+        return;
     }
     put_text(": --seed ");
     put_number(place_seed);
@@ -70,18 +50,6 @@ static void on_signal(int signal)
     put_text(", step ");
     put_number(place_step);
     put_text("\n");
-    _exit(1);
-}
-
-static void watch_signals(void)
-{
-    struct sigaction action;
-
-    memset(&action, 0, sizeof action);
-    action.sa_handler = on_signal;
-    sigaction(SIGSEGV, &action, NULL);
-    sigaction(SIGBUS, &action, NULL);
-    sigaction(SIGALRM, &action, NULL);
 }
 
 /* ---- Lists --------------------------------------------------------------------- */
@@ -176,9 +144,9 @@ static bool run_sweeps(struct pair *pair, struct statistics *s, const struct opt
 {
     if (!o->sweeps || o->one_list)
         return true;
-    return sweep_keys(pair, s) && sweep_lengths(pair, s) && sweep_chain(pair, s) && sweep_forms(pair, s) &&
-           sweep_addresses(pair, s) && sweep_flips(pair, s) && sweep_images(pair, s, o->thorough) &&
-           sweep_records(pair, s, o->thorough);
+    return sweep_keys(pair, s) && sweep_lengths(pair, s) && sweep_sizes(pair, s) && sweep_chain(pair, s) &&
+           sweep_forms(pair, s) && sweep_addresses(pair, s) && sweep_flips(pair, s) &&
+           sweep_images(pair, s, o->thorough) && sweep_records(pair, s, o->thorough);
 }
 
 /* ---- Options --------------------------------------------------------------------- */
@@ -235,7 +203,7 @@ int main(int count, char **words)
         return 2;
     }
     place_seed = options.seed;
-    watch_signals();
+    watch_calls(print_place);
     pair_make(&pair, &archive, &reference);
     same = run_sweeps(&pair, &statistics, &options) && run_lists(&pair, &statistics, &options);
     rows_known = statistics_rows_known(&statistics);

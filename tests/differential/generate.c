@@ -61,7 +61,7 @@ static void fields_now(const struct list *l, struct record_fields *f)
 static uint64_t near_limit(struct random *r, const struct record_fields *f)
 {
     const uint64_t limits[] = {
-        0, f->visible, f->visible, f->native, f->next, f->end, 0x100, 0x10000, 0x100000000,
+        0, f->visible, f->visible, f->native, f->next, f->end, 0x100, 0x10000, SCT_NATIVE_LIMIT, 0x100000000,
         (uint64_t)1 << 48, (uint64_t)1 << 63
     };
 
@@ -546,7 +546,10 @@ static void plan_convert(struct list *l)
 
 static uint64_t any_native(struct list *l)
 {
-    const uint64_t sizes[] = { 1, 2, l->pair->sectors - 1, l->pair->sectors + 1, 65535, 65536, 65537 };
+    const uint64_t sizes[] = {
+        1, 2, l->pair->sectors - 1, l->pair->sectors + 1, 65535, 65536, 65537,
+        SCT_NATIVE_LIMIT - 1, SCT_NATIVE_LIMIT, SCT_NATIVE_LIMIT + 1
+    };
     uint64_t native = once_in(&l->random, 6) ? PICK(&l->random, sizes) : l->pair->sectors;
 
     return native == 0 ? 1 : native;
@@ -1064,13 +1067,25 @@ static size_t wrong_length(struct random *r, size_t right, size_t most)
     return length <= most ? length : 0;
 }
 
+/* About the native limit, or 4 GiB too long, which is the right length in 32 bits. */
+static size_t large_length(struct random *r, size_t right, size_t most)
+{
+    const size_t lengths[] = {
+        most - 2 * SCT_SECTOR_BYTES, most - SCT_SECTOR_BYTES, most, right + ((size_t)1 << 32)
+    };
+    size_t length = PICK(r, lengths);
+
+    return length <= most ? length : most;
+}
+
 /* Half of the time the check area is right for the wrong disk. */
 static void wrong_disk(struct list *l, struct step *step)
 {
     const size_t most = right_length(DISK, SCT_NATIVE_LIMIT + 1);
+    size_t right = step->length[DISK];
 
-    step->length[DISK] = once_in(&l->random, 20) ? most
-                       : wrong_length(&l->random, step->length[DISK], most);
+    step->length[DISK] = once_in(&l->random, 10) ? large_length(&l->random, right, most)
+                       : wrong_length(&l->random, right, most);
     if (once_in(&l->random, 2))
         step->length[CHECK_AREA] = right_length(CHECK_AREA, step->length[DISK] / SCT_SECTOR_BYTES);
 }
@@ -1128,7 +1143,7 @@ static bool is_large(uint64_t index)
 static uint64_t any_size(struct random *r, uint64_t index)
 {
     if (is_large(index))
-        return once_in(r, 2) ? SCT_NATIVE_LIMIT : SCT_NATIVE_LIMIT - below(r, 3);
+        return once_in(r, 2) ? TEST_SECTORS : TEST_SECTORS - below(r, 3);
     switch (below(r, 8)) {
     case 0:  return 1;
     case 1:

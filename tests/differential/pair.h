@@ -18,7 +18,12 @@
 
 enum { IMAGE_ROOM = 70000 };    /* more than any readable image needs */
 
-enum { SECTOR_BITS = 8 * SCT_SECTOR_BYTES };
+/*
+ * The largest disk of a list. Steps are passed larger ones, too, up to the native
+ * limit and one more, but none of them is written: power-on takes the length
+ * alone, and the others refuse it. Large disks that are written are in large/.
+ */
+enum { TEST_SECTORS = 65536 };
 
 struct side {
     const struct implementation *code;

@@ -170,8 +170,8 @@ static void print_edit(FILE *out, const struct step *step)
                 (unsigned long long)step->native);
         break;
     case FLIP_BIT:
-        fprintf(out, " %u of sector %zu%s", step->bit % (8 * SCT_SECTOR_BYTES), step->offset,
-                step->bit < 8 * SCT_SECTOR_BYTES ? "" : ", in its check bytes");
+        fprintf(out, " %u of sector %zu%s", (unsigned)(step->bit % SECTOR_BITS), step->offset,
+                step->bit < SECTOR_BITS ? "" : ", in its check bytes");
         break;
     default:
         fprintf(out, " becomes %llu", (unsigned long long)step->used);

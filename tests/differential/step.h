@@ -25,6 +25,8 @@ enum entry {
 /* From DISK on: those of the disk, of which each side keeps its own (pair.h). */
 enum buffer { RECORD, PRIVATE_AREA, MAILBOX, IMAGE, DISK, CHECK_AREA, BUFFERS };
 
+enum { SECTOR_BITS = 8 * SCT_SECTOR_BYTES };
+
 struct step {
     enum entry entry;
     uint32_t   port;

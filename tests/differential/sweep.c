@@ -661,11 +661,11 @@ static bool try_repairs(struct pair *pair, struct statistics *s, uint64_t visibl
 
 bool sweep_addresses(struct pair *pair, struct statistics *s)
 {
-    static const uint64_t sizes[] = { SCT_NATIVE_LIMIT, SCT_NATIVE_LIMIT - 1, 40000, 32768, 1 };
+    static const uint64_t sizes[] = { TEST_SECTORS, TEST_SECTORS - 1, 40000, 32768, 1 };
     struct random r = random_for(1, 5);
     struct step step;
 
-    pair_reset(pair, &r, SCT_NATIVE_LIMIT, AT_END);
+    pair_reset(pair, &r, TEST_SECTORS, AT_END);
     step = plain_step(pair, POWER_ON);
     if (!sweep_step(pair, s, &step))
         return false;
@@ -701,6 +701,97 @@ bool sweep_flips(struct pair *pair, struct statistics *s)
         go_to_start(pair, &start);
         if (!sweep_step(pair, s, &flip) || !try_repair(pair, s, 0, bit))
             return false;
+    }
+    return true;
+}
+
+/* ---- Sizes ---------------------------------------------------------------------- */
+
+/* About the limit and the one before W-207; 8,388,608 sectors are 4 GiB. */
+static const uint64_t sizes_tried[] = {
+    1, 65535, 65536, 65537, 8388607, 8388608, 8388609,
+    SCT_NATIVE_LIMIT - 1, SCT_NATIVE_LIMIT, SCT_NATIVE_LIMIT + 1
+};
+
+enum { SIZES_TRIED = sizeof sizes_tried / sizeof sizes_tried[0] };
+
+static struct step power_on_of(const struct pair *pair, uint64_t sectors)
+{
+    struct step step = plain_step(pair, POWER_ON);
+
+    step.length[DISK] = right_length(DISK, sectors);
+    step.length[CHECK_AREA] = right_length(CHECK_AREA, sectors);
+    return step;
+}
+
+/* An image of one entry, of a disk of so many sectors. */
+static void make_entry(struct pair *pair, struct random *r, uint64_t native)
+{
+    random_entry(r, pair->image, 1, native, SCT_FORM_2);
+    pair->used = SCT_ENTRY_BYTES;
+}
+
+/* A power-on with such a disk, from nothing and from an entry of each size; then the record is saved and V set to N. */
+static bool try_size(struct pair *pair, struct statistics *s, struct random *r, uint64_t sectors)
+{
+    struct step step = power_on_of(pair, sectors);
+
+    for (unsigned i = 0; i < SIZES_TRIED; i++) {
+        make_entry(pair, r, sizes_tried[i]);
+        step.used = pair->used;
+        if (!sweep_as(pair, s, &step, POWER_ON) || !sweep_as(pair, s, &step, SAVE))
+            return false;
+        pair->used = step.used = 0;
+        step.visible = sizes_tried[i];
+        if (!sweep_as(pair, s, &step, POWER_ON) || !sweep_as(pair, s, &step, SAVE) ||
+            !sweep_as(pair, s, &step, SET_VISIBLE) || !sweep_as(pair, s, &step, SAVE))
+            return false;
+    }
+    return true;
+}
+
+/* The lengths within 2 of those of such a disk and its check area. */
+static bool try_lengths_near(struct pair *pair, struct statistics *s, uint64_t sectors)
+{
+    const struct step right = power_on_of(pair, sectors);
+
+    for (enum buffer b = DISK; b < BUFFERS; b++) {
+        for (size_t more = 0; more <= 4; more++) {
+            struct step step = right;
+
+            step.length[b] = right.length[b] - 2 + more;
+            if (!sweep_step(pair, s, &step))
+                return false;
+        }
+    }
+    return true;
+}
+
+/* The entries that get a disk are passed one that is 4 GiB too long. */
+static bool try_wrapped(struct pair *pair, struct statistics *s)
+{
+    for (enum entry e = 0; e < ENTRIES; e++) {
+        struct step step = step_of(pair, e);
+
+        step.length[DISK] += (size_t)1 << 32;
+        if (entry_has(e, DISK) && !sweep_step(pair, s, &step))
+            return false;
+    }
+    return true;
+}
+
+bool sweep_sizes(struct pair *pair, struct statistics *s)
+{
+    struct random r = random_for(1, 9);
+
+    for (enum placement p = 0; p < PLACEMENTS; p++) {
+        pair_reset(pair, &r, SECTORS, p);
+        base_record(&r, pair->record, FILLING);
+        if (!try_wrapped(pair, s))
+            return false;
+        for (unsigned i = 0; i < SIZES_TRIED; i++)
+            if (!try_size(pair, s, &r, sizes_tried[i]) || !try_lengths_near(pair, s, sizes_tried[i]))
+                return false;
     }
     return true;
 }

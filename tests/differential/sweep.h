@@ -2,8 +2,9 @@
  * sweep.h - what is tried in full rather than at random: every mixture of right
  * and wrong words of a key, every byte of a record, every byte of an image, every
  * length of a chain, every place in it for an entry of another form, every bit of
- * an address on the largest disk, every bit of a sector flipped, every mixture of
- * wrong lengths. Each function prints the first difference and returns false.
+ * an address on a disk of 65,536 sectors, every bit of a sector flipped, every
+ * mixture of wrong lengths, sizes of disks about the native limit. Each function
+ * prints the first difference and returns false.
  */
 #ifndef SWEEP_H
 #define SWEEP_H
@@ -21,5 +22,6 @@ bool sweep_forms(struct pair *pair, struct statistics *s);
 bool sweep_addresses(struct pair *pair, struct statistics *s);
 bool sweep_flips(struct pair *pair, struct statistics *s);
 bool sweep_lengths(struct pair *pair, struct statistics *s);
+bool sweep_sizes(struct pair *pair, struct statistics *s);
 
 #endif

@@ -54,7 +54,7 @@ static uint16_t check_of(const uint8_t *sector)
 /* Where nobody has made them: the check bytes of the whole disk. */
 static void make_check_bytes(void)
 {
-    for (unsigned i = 0; i < NATIVE; i++) {
+    for (size_t i = 0; i < NATIVE; i++) {
         uint16_t check = check_of(disk + i * SCT_SECTOR_BYTES);
 
         check_area[SCT_CHECK_BYTES * i] = (uint8_t)check;

@@ -8,6 +8,7 @@
 #include <stdio.h>
 #include <string.h>
 
+#include "arena.h"
 #include "bytes.h"
 #include "check.h"
 #include "implementation.h"
@@ -1673,6 +1674,132 @@ static void word_is_not_kept(void)
     expect("stored code", stored_code(), 0x0002);
 }
 
+/* ---- W-207: larger disks ----------------------------------------------------------- */
+
+/* Memory that is reserved, for a disk of one sector more than there may be and for its check area. */
+static struct arena large_disk, large_check_area;
+
+static void make_large(void)
+{
+    arena_make(&large_disk, (size_t)16777217 * SCT_SECTOR_BYTES);
+    arena_make(&large_check_area, (size_t)16777217 * SCT_CHECK_BYTES);
+}
+
+/* The answer of a power-on with a disk of so many sectors, and a check area that is right for it. */
+static uint32_t power_on_of(uint64_t sectors, uint64_t used)
+{
+    size_t disk_length = (size_t)sectors * SCT_SECTOR_BYTES;
+    size_t check_length = (size_t)sectors * SCT_CHECK_BYTES;
+
+    return code->power_on(device, sizeof device, area, sizeof area,
+                          arena_place(&large_disk, disk_length, AT_END, 0), disk_length,
+                          arena_place(&large_check_area, check_length, AT_END, 0), check_length,
+                          image, sizeof image, used);
+}
+
+/* "Raise the native limit to 16,777,216 sectors." N is at 0 of the record, V at 8. */
+static void large_disks(void)
+{
+    static const struct { uint64_t sectors; uint32_t answer; } disks[] = {
+        { 0, SCT_BAD_LENGTH }, { 1, SCT_DONE }, { 65535, SCT_DONE }, { 65536, SCT_DONE }, { 65537, SCT_DONE },
+        { 8388608, SCT_DONE }, { 8388609, SCT_DONE }, { 16777215, SCT_DONE }, { 16777216, SCT_DONE },
+        { 16777217, SCT_BAD_LENGTH }
+    };
+    uint8_t before[sizeof device];
+
+    for (size_t i = 0; i < sizeof disks / sizeof disks[0]; i++) {
+        memset(device, 0xEE, sizeof device);
+        memcpy(before, device, sizeof device);
+        expect("power-on of a disk", power_on_of(disks[i].sectors, 0), disks[i].answer);
+        if (disks[i].answer == SCT_DONE) {
+            expect("its N", get64(device), disks[i].sectors);
+            expect("its V", get64(device + 8), disks[i].sectors);
+        } else {
+            expect("record", memcmp(device, before, sizeof device) != 0, 0);
+        }
+    }
+}
+
+/* An image of one entry with this N and V. */
+static void save_sizes(uint64_t native, uint64_t visible)
+{
+    power_on(0);
+    save(0);
+    put64(image, native);
+    put64(image + 8, visible);
+}
+
+/*
+ * "a handler of the old limit answers 6 to an entry above 65,536": now such an
+ * entry is of another disk, or of this one.
+ */
+static void large_entries(void)
+{
+    static const struct { uint64_t native, visible; uint32_t here, there; } entries[] = {
+        { 65536, 65536, SCT_OTHER_DISK, SCT_DONE }, { 65537, 65537, SCT_OTHER_DISK, SCT_DONE },
+        { 65537, 1, SCT_OTHER_DISK, SCT_DONE }, { 16777216, 65536, SCT_OTHER_DISK, SCT_DONE },
+        { 16777216, 16777216, SCT_OTHER_DISK, SCT_DONE }, { 16777216, 16777217, SCT_BAD_IMAGE, SCT_BAD_IMAGE },
+        { 16777217, 1, SCT_BAD_IMAGE, SCT_BAD_LENGTH }, { 16777217, 16777217, SCT_BAD_IMAGE, SCT_BAD_LENGTH }
+    };
+
+    for (size_t i = 0; i < sizeof entries / sizeof entries[0]; i++) {
+        save_sizes(entries[i].native, entries[i].visible);
+        expect("an entry, power-on of 64 sectors", power_on_of(SECTORS, 560), entries[i].here);
+        expect("an entry, save of 64 sectors", code->save(device, sizeof device, image, sizeof image, 560),
+               entries[i].here);
+        expect("an entry, convert", convert(560, SCT_FORM_1),
+               entries[i].here == SCT_OTHER_DISK ? SCT_DONE : SCT_BAD_IMAGE);
+        expect("an entry, power-on of its own disk", power_on_of(entries[i].native, 560), entries[i].there);
+        if (entries[i].there == SCT_DONE)
+            expect("its V", get64(device + 8), entries[i].visible);
+    }
+    save_sizes(16777217, 16777217);
+    expect("an entry of 16,777,217, power-on of 16,777,216", power_on_of(16777216, 560), SCT_BAD_IMAGE);
+}
+
+/* "an entry at or below it is the same bytes in both": the first of a disk of 65,536 sectors, all its 560 bytes. */
+static void same_entry(void)
+{
+    static const uint8_t head[42] = {
+        0, 0, 1, 0, 0, 0, 0, 0, 0, 0, 1, 0, 0, 0, 0, 0,     /* N and V */
+        0, 0x80, 1, 0, 1, 0, 1, 0, 0,                       /* flag, life maximum, features, kept marks */
+        2, 70, 0, 70, 0, 0, 0,                              /* form 2, timers */
+        2, 0, 1, 0, 1, 0, 0x3C, 0x46, 0x05, 0xF6            /* table */
+    };
+    static const uint8_t trailer[16] = { 0x20, 2, 0, 0, 0xFF, 0xFF, 0xFF, 0xFF, 1, 0, 0, 0, 'S', 'C', 'T', 'E' };
+    uint8_t wanted[SCT_ENTRY_BYTES] = { 0 };
+
+    memcpy(wanted, head, sizeof head);
+    put16(wanted + 62, 478);
+    put16(wanted + 64, 477);
+    memset(wanted + 66, 0x80, 478);
+    memcpy(wanted + 544, trailer, sizeof trailer);
+    expect("power-on of 65,536 sectors", power_on_of(65536, 0), SCT_DONE);
+    save(0);
+    expect("its entry", memcmp(image, wanted, sizeof wanted) != 0, 0);
+    expect("power-on from it", power_on_of(65536, 560), SCT_DONE);
+}
+
+/* "Sound records [..] take the new limit". */
+static void large_records(void)
+{
+    static const struct { uint64_t native, visible; uint32_t answer; } records[] = {
+        { 65536, 65536, SCT_DONE }, { 65537, 65537, SCT_DONE }, { 65537, 1, SCT_DONE },
+        { 16777215, 16777215, SCT_DONE }, { 16777215, 16777216, SCT_BAD_RECORD },
+        { 16777216, 16777216, SCT_DONE }, { 16777216, 1, SCT_DONE }, { 16777216, 0, SCT_BAD_RECORD },
+        { 16777217, 16777217, SCT_BAD_RECORD }, { 16777217, 1, SCT_BAD_RECORD },
+        { 0x100000001, 1, SCT_BAD_RECORD }, { UINT64_MAX, 1, SCT_BAD_RECORD }
+    };
+
+    for (size_t i = 0; i < sizeof records / sizeof records[0]; i++) {
+        power_on(0);
+        put64(device, records[i].native);
+        put64(device + 8, records[i].visible);
+        expect("record of a large disk", code->sample(device, sizeof device, 20), records[i].answer);
+        expect("V set to its N", code->set_visible(device, sizeof device, records[i].native), records[i].answer);
+    }
+}
+
 static void run(const struct implementation *implementation)
 {
     code = implementation;
@@ -1728,10 +1855,15 @@ static void run(const struct implementation *implementation)
     other_requests();
     other_requests_locked();
     word_is_not_kept();
+    large_disks();
+    large_entries();
+    same_entry();
+    large_records();
 }
 
 int main(void)
 {
+    make_large();
     run(&reference);
     run(&archive);
     printf("examples: %u checks, %u wrong\n", tried, wrong);

@@ -108,6 +108,29 @@
  *  80   a timer's value at fault names word 2
  *  81   a fill whose Start and sum are both at fault names word 6
  *  82   a refusal that names word 0 is taken for none, so a wrong action is accepted
+ *  83   an entry of a disk above 65,536 sectors is not readable (the limit before W-207)
+ *  84   a disk above 65,536 sectors is answer 2 at power-on (the same)
+ *  85   the record of a disk above 65,536 sectors is unsound (the same)
+ *  86   the native limit is one too low
+ *  87   the native limit is one too high
+ *  88   a sector's offset on the disk has 32 bits, so that it wraps at 4 GiB
+ *  89   a sector's offset on the disk is that of the low 16 bits of its LBA
+ *  90   the offset of a sector's check bytes has 24 bits
+ *  91   repair computes a sector's offset in 32 bits
+ *  92   the length of a disk is compared in 32 bits
+ *  93   power-on takes N from the low 32 bits of the disk's length
+ *  94   V has 24 bits when it is set, so that 16,777,216 becomes 0
+ *  95   V has 24 bits when it is saved
+ *  96   the next sector of a fill has 24 bits, so that a fill to sector 16,777,215 does not end
+ *  97   the end of a pattern fill has 24 bits
+ *  98   a pending fill keeps 16 bits of its first sector
+ *  99   a pending Long transfer keeps 16 bits of its LBA
+ * 100   work counts in 16 bits what is left of a fill
+ * 101   work reports 16 bits of the number that it wrote
+ * 102   one work writes at most 65,536 sectors
+ * 103   the status sector has 16 bits of the next LBA
+ * 104   the end of a fill from 0 is compared with V in 16 bits
+ * 105   a sector's LBA has 24 bits, as those of the largest disk fit in them
  */
 #ifdef PLANT
 #define PLANTED(n) (PLANT == (n))
@@ -171,6 +194,12 @@ static inline void store(uint8_t *at, size_t bytes, uint64_t value)
         store16(at, (uint16_t)value);
     else
         store64(at, value);
+}
+
+/* The number; where a fault is planted its low bits alone. */
+static inline uint64_t narrowed(bool planted, unsigned bits, uint64_t number)
+{
+    return planted ? number & (((uint64_t)1 << bits) - 1) : number;
 }
 
 /* Eight bytes at a time, as the record has hundreds of spare bytes. */
@@ -309,10 +338,22 @@ static void write_device(uint8_t *record, const struct device *d)
 /* Values in range (records, image entries and keys share these)            */
 /* ======================================================================== */
 
-/* "Disk: a lent run of 1 to 65,536 sectors"; "Visible size V is 1 to N". */
-static bool sizes_in_range(uint64_t native, uint64_t visible)
+/*
+ * "Disk: a lent run of 1 to 65,536 sectors". W-207: "Raise the native limit to
+ * 16,777,216 sectors." It is read at three places, of which one may be planted
+ * to have the old limit.
+ */
+static uint64_t native_limit(bool planted)
 {
-    return 1 <= visible && visible <= native && native <= SCT_NATIVE_LIMIT;
+    if (planted)
+        return 65536;
+    return SCT_NATIVE_LIMIT - (PLANTED(86) ? 1 : 0) + (PLANTED(87) ? 1 : 0);
+}
+
+/* "Visible size V is 1 to N." */
+static bool sizes_in_range(uint64_t native, uint64_t visible, uint64_t limit)
+{
+    return 1 <= visible && visible <= native && native <= limit;
 }
 
 /*
@@ -436,12 +477,14 @@ struct disk {
 
 static uint8_t *sector_at(struct disk disk, uint64_t lba)
 {
-    return disk.sectors + lba * SCT_SECTOR_BYTES;
+    uint64_t offset = narrowed(PLANTED(89), 16, lba) * SCT_SECTOR_BYTES;
+
+    return disk.sectors + narrowed(PLANTED(88), 32, offset);
 }
 
 static uint8_t *check_at(struct disk disk, uint64_t lba)
 {
-    return disk.check_area + lba * SCT_CHECK_BYTES;
+    return disk.check_area + narrowed(PLANTED(90), 24, lba * SCT_CHECK_BYTES);
 }
 
 /*
@@ -549,11 +592,11 @@ static bool spare_bytes_zero(const uint8_t *record)
  * "A record is sound when: it has 1,024 bytes; 1 <= V <= N <= 65,536; [..] the
  * stored code is FFFFh exactly while a fill runs; each timer is 0 or at least
  * 10; the interval is 1 or more, minutes counted are below it, the history
- * index is at most 477".
+ * index is at most 477". W-207: "Sound records and answer 2 take the new limit".
  */
 static bool device_sound(const struct device *d, const uint8_t *record)
 {
-    return sizes_in_range(d->native, d->visible) &&
+    return sizes_in_range(d->native, d->visible, native_limit(PLANTED(85))) &&
            flags_sound(d) &&
            fill_sound(d) &&
            ports_sound(d) &&
@@ -620,7 +663,9 @@ static void stop_and_drop(struct device *d)
  */
 static void end_fill(struct device *d)
 {
-    if (d->first == 0 && (d->end == d->visible || PLANTED(15)))
+    bool to_last = narrowed(PLANTED(104), 16, d->end) == narrowed(PLANTED(104), 16, d->visible);
+
+    if (d->first == 0 && (to_last || PLANTED(15)))
         d->initialized = 1;
     d->code = CODE_DONE;
     clear_fill(d);
@@ -642,16 +687,18 @@ static void write_sector(struct device *d, struct disk disk, uint64_t lba, const
  */
 static uint32_t advance_fill(struct device *d, struct disk disk, const uint8_t *sector, uint32_t n)
 {
-    uint64_t left = d->end - d->next;
+    uint64_t left = narrowed(PLANTED(100), 16, d->end - d->next);
     uint32_t k = n < left ? n : (uint32_t)left;
     uint16_t check = k == 0 ? 0 : check_of(sector);
 
+    if (PLANTED(102) && k > 65536)
+        k = 65536;
     for (uint32_t i = 0; i < k; i++) {
         uint64_t lba = d->next + i;
 
         write_sector(d, disk, lba, sector, PLANTED(30) && i > 0 ? load16(check_at(disk, lba)) : check);
     }
-    d->next += k;
+    d->next = narrowed(PLANTED(96), 24, d->next + k);
     if (d->filling && d->next == d->end)
         end_fill(d);
     return k;
@@ -738,8 +785,8 @@ static struct request sector_request(const uint8_t *registers)
             (uint64_t)registers[LOW_BEFORE] << 24 |
             (uint64_t)registers[MID_BEFORE] << 32 |
             (uint64_t)registers[HIGH_BEFORE] << 40;
-    if (PLANTED(24))
-        r.lba &= 0xFFFFFFFFu;
+    r.lba = narrowed(PLANTED(24), 32, r.lba);
+    r.lba = narrowed(PLANTED(105), 24, r.lba);
     return r;
 }
 
@@ -1011,7 +1058,7 @@ static struct refusal judge_key(const struct device *d, const uint8_t *key)
 static struct reply accept_long(struct port *port, const uint8_t *key)
 {
     port->pending = word(key, 1) == LONG_READ ? SEND_LONG : RECEIVE_LONG;
-    port->first = load64(key + KEY_LBA);
+    port->first = narrowed(PLANTED(99), 16, load64(key + KEY_LBA));
     return good_with_long_transfer();
 }
 
@@ -1028,13 +1075,13 @@ static struct reply accept_fill(struct service *s)
 
     if (word(key, 1) == FILL_SECTOR) {
         s->port->pending = RECEIVE_FILL_SECTOR;
-        s->port->first = start;
+        s->port->first = narrowed(PLANTED(98), 16, start);
         s->port->end = end;
         return good_with_transfer();
     }
     for (unsigned i = 0; i < SCT_SECTOR_BYTES; i += PATTERN_BYTES)
         memcpy(s->fill_sector + i, key + KEY_PATTERN, PATTERN_BYTES);
-    start_fill(s->device, start, end);
+    start_fill(s->device, start, narrowed(PLANTED(97), 24, end));
     return good(0);
 }
 
@@ -1143,7 +1190,7 @@ static void write_status(uint8_t *sector, const struct device *d)
     store16(sector + 14, d->code);
     store16(sector + 16, d->action);
     store16(sector + 18, d->function);
-    store64(sector + 40, d->next);
+    store64(sector + 40, narrowed(PLANTED(103), 16, d->next));
     sector[200] = d->now;
     sector[202] = d->cycle_maximum;
     sector[204] = d->life_maximum;
@@ -1484,13 +1531,17 @@ static bool form_holds(const uint8_t *body)
     }
 }
 
-/* "values in range, zeros zero, table interval equal to feature 3" */
+/*
+ * "values in range, zeros zero, table interval equal to feature 3". W-207: "a
+ * handler of the old limit answers 6 to an entry above 65,536, and an entry at
+ * or below it is the same bytes in both."
+ */
 static bool body_holds(const uint8_t *body)
 {
     uint16_t state[FEATURES];
 
     read_states(state, body);
-    return sizes_in_range(load64(body + BODY_NATIVE), load64(body + BODY_VISIBLE)) &&
+    return sizes_in_range(load64(body + BODY_NATIVE), load64(body + BODY_VISIBLE), native_limit(PLANTED(83))) &&
            body[BODY_FLAG] <= 1 &&
            states_in_range(state) &&
            body[BODY_PERSISTENT] < 1u << FEATURES &&
@@ -1588,7 +1639,7 @@ static void write_body(uint8_t *body, const struct device *d, const uint8_t *tab
 
     timers_to_save(timer, d);
     store64(body + BODY_NATIVE, d->native);
-    store64(body + BODY_VISIBLE, d->visible);
+    store64(body + BODY_VISIBLE, narrowed(PLANTED(95), 24, d->visible));
     body[BODY_FLAG] = d->initialized;
     body[BODY_LIFE] = d->life_maximum;
     body[BODY_PERSISTENT] = 0;
@@ -1710,17 +1761,20 @@ static void restore(struct device *d, uint8_t *table, const uint8_t *body)
     restore_history(d, table, body + BODY_TABLE);
 }
 
-/* "a lent run of 1 to 65,536 sectors of 512 bytes" */
+/* "a lent run of 1 to 65,536 sectors of 512 bytes". W-207: "Sound records and answer 2 take the new limit". */
 static bool disk_length_possible(size_t length)
 {
-    return length % SCT_SECTOR_BYTES == 0 &&
-           1 <= length / SCT_SECTOR_BYTES && length / SCT_SECTOR_BYTES <= SCT_NATIVE_LIMIT;
+    uint64_t sectors = length / SCT_SECTOR_BYTES;
+
+    return length % SCT_SECTOR_BYTES == 0 && 1 <= sectors && sectors <= native_limit(PLANTED(84));
 }
 
 /* W-202: "a check area of wrong length is answer 2". */
 static bool disk_lengths_right(const struct device *d, size_t disk_length, size_t check_area_length)
 {
-    return disk_length == d->native * SCT_SECTOR_BYTES && check_area_length == d->native * SCT_CHECK_BYTES;
+    uint64_t length = narrowed(PLANTED(92), 32, d->native * SCT_SECTOR_BYTES);
+
+    return narrowed(PLANTED(92), 32, disk_length) == length && check_area_length == d->native * SCT_CHECK_BYTES;
 }
 
 /* ======================================================================== */
@@ -1829,7 +1883,7 @@ uint64_t REF(work)(uint8_t *device, size_t device_length,
     if (PLANTED(12) && n == 0)
         sectors = 1;
     write_device(device, &d);
-    return (uint64_t)SCT_DONE << 32 | sectors;
+    return (uint64_t)SCT_DONE << 32 | narrowed(PLANTED(101), 16, sectors);
 }
 
 static uint32_t set_lock(uint8_t *device, size_t device_length, uint8_t locked)
@@ -1867,7 +1921,7 @@ uint32_t REF(set_visible)(uint8_t *device, size_t device_length, uint64_t v)
         stop_and_drop(&d);
     if (v != d.visible)
         d.initialized = 0;
-    d.visible = v;
+    d.visible = narrowed(PLANTED(94), 24, v);
     write_device(device, &d);
     return SCT_DONE;
 }
@@ -1913,7 +1967,7 @@ uint64_t REF(repair)(uint8_t *device, size_t device_length,
         planted_stop(device, &d);
         return (uint64_t)SCT_BAD_VALUE << 32;
     }
-    sector = disk + lba * SCT_SECTOR_BYTES;
+    sector = disk + narrowed(PLANTED(91), 32, lba * SCT_SECTOR_BYTES);
     difference = check_difference(sector, check_area + lba * SCT_CHECK_BYTES);
     if (!PLANTED(32) && !(PLANTED(37) && difference == 0))
         stop_and_drop(&d);
@@ -1961,7 +2015,7 @@ uint32_t REF(power_on)(uint8_t *device, size_t device_length,
                        const uint8_t *image, size_t image_length, uint64_t used)
 {
     struct device d;
-    uint64_t native = disk_length / SCT_SECTOR_BYTES;
+    uint64_t native = narrowed(PLANTED(93), 32, disk_length) / SCT_SECTOR_BYTES;
     const uint8_t *newest;
     uint32_t answer;
 

@@ -8,7 +8,7 @@ use lib.Dec.{eqb}
 use borrow.Author.Tests.{eq-eqb, ne-eqb, le-leb, lt-leb}
 use Rattle.wire.specs.Numbers.{get}
 use Rattle.model.specs.Sizes.{trailerSize, entrySize, entryLimit}
-use Rattle.model.specs.Image.{formOf, Saved, savedAt, trailerPlace, noTrailer, previousPlace, linkPlace, entryHolds, entries, newestIn, readable, chainHolds, chainForm}
+use Rattle.model.specs.Image.{formOf, Saved, savedAt, trailerPlace, noTrailer, previousPlace, linkPlace, entryHolds, entries, newestIn, readableUnder, readable, chainHolds, chainForm}
 use Rattle.image.specs.EntryTests.{NewestIs}
 use Rattle.model.proofs.ImageLaws.{chain-every, newest-at}
 
@@ -42,22 +42,22 @@ module _ (newest : Saved) (image : List ℕ) where
 
 module _ (image : List ℕ) (used : ℕ) where
   pub readable-uneven : (used % entrySize ≡ 0 → ⊥) → false ≡ readable image used
-  unfolding readable
+  unfolding readableUnder
   readable-uneven ne = rw (ne-eqb (used % entrySize) 0 ne)
 
   pub readable-long : used % entrySize ≡ 0 → entrySize * entryLimit < used → false ≡ readable image used
-  unfolding readable
+  unfolding readableUnder
   readable-long e h = rw (eq-eqb (used % entrySize) 0 e, lt-leb used (entrySize * entryLimit) h)
 
   pub readable-empty : used ≡ 0 → true ≡ readable image used
-  unfolding readable
+  unfolding readableUnder
   readable-empty e = ap (λ (n : ℕ). readable image n) (sym e)
 
   -- the answer of a chain test that gets only the newest entry's N and form
   pub readable-chain : used % entrySize ≡ 0 → used ≤ entrySize * entryLimit → 1 ≤ used → (answer : Bool)
       → (let s = savedAt image (used - entrySize) in (newest : Saved) → NewestIs newest (s .native) (formOf (s .timers)) → answer ≡ chainHolds newest image (entries used) (used - trailerSize))
       → answer ≡ readable image used
-  unfolding readable
+  unfolding readableUnder
   readable-chain e h some answer holds =
       let n = entries used in
       let whole : used ≡ entrySize * n = omega arith in

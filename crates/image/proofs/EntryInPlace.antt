@@ -22,7 +22,7 @@ use Rattle.wire.proofs.FormUnique.{form-unique}
 use Rattle.wire.proofs.BytesLaws.{bytes-part, all-zero-true, zero-all-true, same-refl, same-true}
 use Rattle.model.specs.Sizes.{sectorSize, historySize, bodySize, trailerSize, entrySize, entryLimit}
 use Rattle.model.specs.Temperature.{tableIntervalPlace, tableIndexPlace, tableHeadSize, tableBytes}
-use Rattle.model.specs.Image.{leftOut, stored, Saved, nativePlace, visiblePlace, flagPlace, lifePlace, cachePlace, reorderingPlace, intervalPlace, optionsPlace, formPlace, readTimerPlace, writeTimerPlace, zerosPlace, headSize, timerFields, headFields, bodyBytes, hasBit, timersAt, savedAt, inRange, bodyHolds, tag, trailerPlace, previousPlace, linkPlace, numberPlace, tagPlace, trailerFields, trailerBytes, alike, entryHolds}
+use Rattle.model.specs.Image.{leftOut, stored, Saved, nativePlace, visiblePlace, flagPlace, lifePlace, cachePlace, reorderingPlace, intervalPlace, optionsPlace, formPlace, readTimerPlace, writeTimerPlace, zerosPlace, headSize, timerFields, headFields, bodyBytes, hasBit, timersAt, savedAt, inRange, bodyHoldsUnder, bodyHolds, tag, trailerPlace, previousPlace, linkPlace, numberPlace, tagPlace, trailerFields, trailerBytes, alike, entryHoldsUnder, entryHolds}
 use Rattle.model.proofs.FormatLaws.{table-at}
 use Rattle.model.specs.ImageForm.{SavedFits}
 use Rattle.model.proofs.EntryLaws.{TimersHeld, saved-at, read-fits}
@@ -251,7 +251,7 @@ module _ (image : List ℕ) (at : ℕ) (b : Bytes image) (fits : at + bodySize �
 
   -- THEOREM: a body holds exactly if it passes the tests in place.
   pub body-in-place : bodyHolds (part image at bodySize) ≡ bodyInPlace image at
-  unfolding bodyHolds
+  unfolding bodyHoldsUnder
   body-in-place =
       ap (λ (s : Saved). same (bodyBytes s) (part image at bodySize) && inRange s) (saved-at image at)
       ∙ tests-same (same (bodyBytes (savedAt image at)) (part image at bodySize) && inRange (savedAt image at)) (bodyInPlace image at) there back
@@ -354,7 +354,7 @@ module _ (image : List ℕ) (at k : ℕ) (b : Bytes image) (fits : at + trailerS
 -- THEOREM: entry k holds exactly if its body and its trailer pass the tests in place and it is like the newest.
 pub entry-in-place : (newest : Saved) (image : List ℕ) (at k : ℕ) → Bytes image → 1 ≤ k → k ≤ entryLimit → at ≡ trailerPlace k → entrySize * k ≤ length image
     → (bodyInPlace image (at - bodySize) && alike newest (savedAt image (at - bodySize)) && trailerInPlace image at k) ≡ entryHolds newest image k
-unfolding entryHolds
+unfolding entryHoldsUnder
 entry-in-place newest image at k b low high e long =
     ap (λ (p : ℕ). bodyInPlace image (p - bodySize) && alike newest (savedAt image (p - bodySize)) && trailerInPlace image p k) e
     ∙ rw (

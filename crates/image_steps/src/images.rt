@@ -40,7 +40,7 @@ pub fn save(device: &[u8], image: &mut [u8], used: u64) -> u32
     answer::DONE
 }
 
-// Whether a disk of this length is 1 to 65,536 whole sectors.
+// Whether a disk of this length is 1 to 16,777,216 whole sectors.
 fn is_whole(disk_len: usize) -> bool
     ensures { λ r. ⌜ r ≡ wholeSectors «disk_len» ⌝ }
 {

@@ -10,12 +10,12 @@ pub mod sct;
 pub mod status;
 pub mod table;
 
-// "Disk: a lent run of 1 to 65,536 sectors of 512 bytes"; sector numbers are u64.
+// "Disk: a lent run of 1 to 65,536 sectors of 512 bytes"; W-207: "Raise the native limit to 16,777,216 sectors." Sector numbers are u64.
 pub const SECTOR: usize = 512;
 
 pub const SECTOR_U64: u64 = SECTOR as u64;
 
-pub const NATIVE_LIMIT: u64 = 65536;
+pub const NATIVE_LIMIT: u64 = 16777216;
 
 // W-202: "a lent check area, two bytes a sector"
 pub const CHECK: usize = 2;

@@ -23,7 +23,7 @@ SameSize a b = (length (a .sectors) ≡ length (b .sectors)) × (length (a .chec
 pub native-size : (n : ℕ) (disk : Disk) → HasSize n disk → nativeSize disk ≡ n
 native-size n disk e = omega (arith, e .0)
 
--- a disk of 1 to 65,536 sectors passes power-on's test
+-- a disk of 1 to 16,777,216 sectors passes power-on's test
 pub well-sized : (n : ℕ) (disk : Disk) → HasSize n disk → 1 ≤ n → n ≤ nativeLimit → wellSized disk ≡ true
 well-sized n disk e some most =
     let size = length (disk .sectors) in

@@ -21,7 +21,7 @@ use Rattle.model.specs.Sizes.{sectorSize, nativeLimit, historySize, body
 use Rattle.model.specs.Key.{timerNamed, statesNamed}
 use Rattle.model.proofs.StateLaws.{timer-range, range-timer, states-ranges, ranges-states}
 use Rattle.model.specs.Temperature.{tableIndexPlace, tableHeadSize, tableFields, tableBytes}
-use Rattle.model.specs.Image.{SavedTimers, leftOut, stored, formOf, timersIn, Saved, nativePlace, visiblePlace, flagPlace, lifePlace, cachePlace, reorderingPlace, intervalPlace, optionsPlace, formPlace, formTwoByte, readTimerPlace, writeTimerPlace, headSize, timerNumbers, timerFields, headFields, bodyBytes, hasBit, timersAt, savedAt, timersNamed, inRange, bodyHolds, tag, tagPlace, trailerFields, trailerBytes, alike}
+use Rattle.model.specs.Image.{SavedTimers, leftOut, stored, formOf, timersIn, Saved, nativePlace, visiblePlace, flagPlace, lifePlace, cachePlace, reorderingPlace, intervalPlace, optionsPlace, formPlace, formTwoByte, readTimerPlace, writeTimerPlace, headSize, timerNumbers, timerFields, headFields, bodyBytes, hasBit, timersAt, savedAt, timersNamed, inRangeUnder, inRange, bodyHoldsUnder, bodyHolds, tag, tagPlace, trailerFields, trailerBytes, alike}
 use Rattle.model.specs.ImageForm.{TimersFit, SavedFits, AreAlike}
 use Rattle.model.specs.Valid.{TimerValid, StateValid}
 use Rattle.model.proofs.FormatLaws.{table-reads, table-bytes}
@@ -174,7 +174,7 @@ saved-at run at =
 
 -- .. and a body of values in range holds
 pub body-holds : (s : Saved) → SavedFits s → inRange s ≡ true → bodyHolds (bodyBytes s) ≡ true
-unfolding bodyHolds
+unfolding bodyHoldsUnder
 body-holds s f r = rw (saved-back s f, same-refl (bodyBytes s)) r
 
 -- the elements of an entry are bytes
@@ -242,7 +242,7 @@ pub record Ranged (s : Saved) : Type 0 where
   pub timers : TimersRanged (s .timers)
 
 pub range-parts : (s : Saved) → inRange s ≡ true → Ranged s
-unfolding inRange
+unfolding inRangeUnder
 range-parts s h =
     let native = between 1 (s .native) nativeLimit in
     let visible = between 1 (s .visible) (s .native) in
@@ -262,7 +262,7 @@ range-parts s h =
     }
 
 pub parts-range : (s : Saved) → Ranged s → inRange s ≡ true
-unfolding inRange
+unfolding inRangeUnder
 parts-range s r =
     rw (
       between-within 1 (s .native) nativeLimit (r .native .0) (r .native .1),

@@ -16,7 +16,7 @@ use Rattle.wire.proofs.ChoiceLaws.{and-left, and-right, and-both, and-three, th
 use Rattle.wire.proofs.PartsLaws.{length-part, part-part, get-part, part-append-left, part-append-right}
 use Rattle.wire.proofs.BytesLaws.{bytes-part, same-refl, same-true}
 use Rattle.model.specs.Sizes.{bodySize, trailerSize, entrySize, entryLimit}
-use Rattle.model.specs.Image.{Saved, bodyBytes, timersAt, savedAt, inRange, bodyHolds, trailerPlace, previousPlace, linkPlace, trailerBytes, bodyAt, trailerAt, alike, entryHolds, every, entries, newestIn, readable, chainHolds, sameDisk}
+use Rattle.model.specs.Image.{Saved, bodyBytes, timersAt, savedAt, inRange, bodyHoldsUnder, bodyHolds, trailerPlace, previousPlace, linkPlace, trailerBytes, bodyAt, trailerAt, alike, entryHoldsUnder, entryHolds, every, entries, newestIn, readableUnder, readable, chainHolds, sameDisk}
 use Rattle.model.specs.ImageForm.{AreAlike, EntryForm, ImageForm}
 use Rattle.model.proofs.EntryFormat.{get-trailer, trailer-fields}
 use Rattle.model.proofs.EntryLaws.{length-body, length-trailer, saved-back, saved-at, body-holds, read-fits, alike-parts, parts-alike, alike-others}
@@ -44,9 +44,9 @@ trailer-reads : (k : ℕ) → k ≤ entryLimit → get 4 (trailerBytes k) linkPl
 trailer-reads k h = get-trailer k linkPlace (omega arith) ∙ trailer-fields k (omega arith) .1 .0
 
 -- what the test of an entry states
-entry-held : (newest : Saved) (image : List ℕ) (k : ℕ) → entryHolds newest image k ≡ true
+pub entry-held : (newest : Saved) (image : List ℕ) (k : ℕ) → entryHolds newest image k ≡ true
     → (bodyHolds (bodyAt image k) ≡ true) × AreAlike newest (savedAt (bodyAt image k) 0) × (trailerAt image k ≡ trailerBytes k)
-unfolding entryHolds
+unfolding entryHoldsUnder
 entry-held newest image k h =
     let body = bodyAt image k in
     let parts = and-three (bodyHolds body) (alike newest (savedAt body 0)) (same (trailerAt image k) (trailerBytes k)) h in
@@ -54,7 +54,7 @@ entry-held newest image k h =
 
 -- whether an entry holds is the same for two newest entries that are alike
 pub holds-alike : (a b : Saved) (image : List ℕ) (k : ℕ) → AreAlike a b → entryHolds a image k ≡ entryHolds b image k
-unfolding entryHolds
+unfolding entryHoldsUnder
 holds-alike a b image k r = rw (alike-others a b (savedAt (bodyAt image k) 0) r)
 
 -- "follows the chain back": the trailer of an entry that holds points to the trailer before it
@@ -114,7 +114,7 @@ pub form-saved : (newest : Saved) (image : List ℕ) (k : ℕ) → 1 ≤ k → (
 form-saved newest image k h e = ap (λ (body : List ℕ). savedAt body 0) (body-formed newest image k h e) ∙ saved-back (e .saved) (e .fits)
 
 pub form-holds : (newest : Saved) (image : List ℕ) (k : ℕ) → 1 ≤ k → EntryForm newest image k → entryHolds newest image k ≡ true
-unfolding entryHolds
+unfolding entryHoldsUnder
 form-holds newest image k h e =
     three-and (bodyHolds (bodyAt image k)) (alike newest (savedAt (bodyAt image k) 0)) (same (trailerAt image k) (trailerBytes k))
     (rw (body-formed newest image k h e) (body-holds (e .saved) (e .fits) (e .ranged)))
@@ -127,7 +127,7 @@ part-within l b n p e = omega (arith, rw (length-take, length-drop) at e)
 
 -- a body that holds is the body of the values that it decodes to, and they are in range
 body-parts : (b : List ℕ) → bodyHolds b ≡ true → (bodyBytes (savedAt b 0) ≡ b) × (inRange (savedAt b 0) ≡ true)
-unfolding bodyHolds
+unfolding bodyHoldsUnder
 body-parts b h =
     let again = same (bodyBytes (savedAt b 0)) b in
     (same-true (bodyBytes (savedAt b 0)) b (and-left again (inRange (savedAt b 0)) h), and-right again (inRange (savedAt b 0)) h)
@@ -155,7 +155,7 @@ pub record Readable (image : List ℕ) (used : ℕ) : Type 0 where
   pub each : (k : ℕ) → 1 ≤ k → k ≤ entries used → entryHolds (newestIn image used) image k ≡ true
 
 pub readable-parts : (image : List ℕ) (used : ℕ) → readable image used ≡ true → Readable image used
-unfolding readable
+unfolding readableUnder
 readable-parts image used h =
     let holds = entryHolds (newestIn image used) image in
     let parts = and-three (eqb (used % entrySize) 0) (leb used (entrySize * entryLimit)) (every (entries used) holds) h in
@@ -166,7 +166,7 @@ readable-parts image used h =
     }
 
 pub parts-readable : (image : List ℕ) (used : ℕ) → Readable image used → readable image used ≡ true
-unfolding readable
+unfolding readableUnder
 parts-readable image used r =
     let holds = entryHolds (newestIn image used) image in
     three-and (eqb (used % entrySize) 0) (leb used (entrySize * entryLimit)) (every (entries used) holds)

@@ -38,6 +38,7 @@ pub mod RecoveryTimers
 pub mod SavedThenOn
 pub mod EntryTimers
 pub mod SavedForm
+pub mod TwoLimits
 pub mod ConvertedBytes
 pub mod ConvertedEntries
 pub mod ConvertRefusals

@@ -8,7 +8,7 @@ use lib.ListN.{length}
 use borrow.Author.Tests.{eq-eqb, ne-eqb, lt-ltb, le-ltb, lt-leb, le-leb}
 use Rattle.wire.specs.Choice.{firstFailed}
 use Rattle.model.specs.Sizes.{portCount, mailboxSize}
-use Rattle.model.specs.Image.{readable, sameDisk, hasRoom, wholeSectors, wellSized, powerOnChecks}
+use Rattle.model.specs.Image.{readableUnder, readable, sameDisk, hasRoom, wholeSectors, wellSized, powerOnChecks}
 use Rattle.model.specs.Disk.{Disk}
 use Rattle.model.specs.Machine.{Machine}
 use Rattle.model.specs.Step.{lock, unlock, setVisible, sample, Step, take, serve, give, work, owner, save, isEmpty, isRequest, isReply, step}
@@ -101,5 +101,5 @@ module _ (disk : Disk) (image : List ℕ) (used : ℕ) where
 
   -- "Power-on from length 0" is never refused for its image
   pub power-on-empty : wellSized disk ≡ true → firstFailed (powerOnChecks disk image 0) ≡ 0
-  unfolding readable
+  unfolding readableUnder
   power-on-empty whole = rw (whole, le-leb 0 (length image) (omega arith))

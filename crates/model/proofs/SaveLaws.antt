@@ -20,7 +20,7 @@ use Rattle.model.specs.Buffers.{Image}
 use Rattle.model.specs.Disk.{Disk, HasSize}
 use Rattle.model.specs.Device.{Device}
 use Rattle.model.specs.Valid.{Valid}
-use Rattle.model.specs.Image.{SavedTimers, leftOut, stored, formOf, timersIn, Saved, savedFrom, bodyBytes, savedAt, inRange, trailerBytes, bodyAt, trailerPlace, entryHolds, entries, newestIn, readable, sameDisk, saveChecks, chainForm, savedImage, powerOnChecks, restored}
+use Rattle.model.specs.Image.{SavedTimers, leftOut, stored, formOf, timersIn, Saved, savedFrom, bodyBytes, savedAt, inRange, trailerBytes, bodyAt, trailerPlace, entryHoldsUnder, entryHolds, entries, newestIn, readable, sameDisk, saveChecks, chainForm, savedImage, powerOnChecks, restored}
 use Rattle.model.specs.ImageForm.{TimersFit, SavedFits, AreAlike, EntryForm}
 use Rattle.model.proofs.DiskSizes.{native-size, well-sized}
 use Rattle.model.proofs.EntryLaws.{bytes-body, bytes-trailer, length-body, length-trailer, by-form, TimersRanged, Ranged, parts-range, range-fits, alike-self}
@@ -103,7 +103,7 @@ saved-after d image used i v h = getD-sets-after (added d image used) image used
 -- the earlier entries hold as before
 entry-before : (newest : Saved) (d : Device) (image : List ℕ) (used k : ℕ) → 1 ≤ k → entrySize * k ≤ used
     → entryHolds newest (savedImage d image used) k ≡ entryHolds newest image k
-unfolding savedImage entryHolds
+unfolding savedImage entryHoldsUnder
 entry-before newest d image used k low h =
     rw (
       part-before (added d image used) image used (trailerPlace k - bodySize) bodySize (omega arith),

@@ -13,8 +13,8 @@ use Rattle.model.specs.Valid.{FillValid, TransferValid, PendingValid, pe
 use Rattle.model.proofs.ValidRequest.{pending-for, empty-rest}
 
 pub record Clauses (d : Device) : Type 0 where
-  -- "1 ≤ V ≤ N ≤ 65,536"
-  pub sizes : (1 ≤ d .visible) × (d .visible ≤ d .native) × (d .native ≤ 65536)
+  -- "1 ≤ V ≤ N ≤ 65,536"; W-207: "Sound records .. take the new limit"
+  pub sizes : (1 ≤ d .visible) × (d .visible ≤ d .native) × (d .native ≤ 16777216)
   -- "if a fill runs, first ≤ next < end ≤ V"
   pub fill : (first next end : ℕ) → d .command .fill ≡ running first next end → (first ≤ next) × (next < end) × (end ≤ d .visible)
   -- "an owed fill has first < end ≤ V"

@@ -172,18 +172,19 @@ abbrev pub timersNamed : SavedTimers → Bool
 timersNamed leftOut = true
 timersNamed (stored forRead forWrite) = timerNamed forRead && timerNamed forWrite
 
--- "values in range"
-unfoldable pub inRange : Saved → Bool
-inRange s =
-    between 1 (s .native) nativeLimit
+-- "values in range", for disks of at most so many sectors. This and what is made of it take the limit, so that a handler of another limit can be
+-- spoken of: W-207, "a handler of the old limit answers 6 to an entry above 65,536" (proofs/TwoLimits.antt).
+unfoldable pub inRangeUnder : ℕ → Saved → Bool
+inRangeUnder limit s =
+    between 1 (s .native) limit
     && between 1 (s .visible) (s .native)
     && statesNamed (s .writeCache .state) (s .reordering .state) (s .logInterval .state)
     && ltb (s .index) historySize
     && timersNamed (s .timers)
 
 -- A body holds if it is, byte for byte, the body of values in range: so "zeros zero, table interval equal to feature 3", and byte 25 is 0 or 2.
-unfoldable pub bodyHolds : List ℕ → Bool
-bodyHolds b = same (bodyBytes (savedAt b 0)) b && inRange (savedAt b 0)
+unfoldable pub bodyHoldsUnder : ℕ → List ℕ → Bool
+bodyHoldsUnder limit b = same (bodyBytes (savedAt b 0)) b && inRangeUnder limit (savedAt b 0)
 
 -- "then the letters SCTE"
 abbrev pub tag : List ℕ
@@ -227,9 +228,9 @@ unfoldable pub alike : Saved → Saved → Bool
 alike newest s = eqb (s .native) (newest .native) && eqb (formOf (s .timers)) (formOf (newest .timers))
 
 -- entry k holds: its body, like the newest, and its trailer
-unfoldable pub entryHolds : Saved → Image → ℕ → Bool
-entryHolds newest image k =
-    bodyHolds (bodyAt image k) && alike newest (savedAt (bodyAt image k) 0) && same (trailerAt image k) (trailerBytes k)
+unfoldable pub entryHoldsUnder : ℕ → Saved → Image → ℕ → Bool
+entryHoldsUnder limit newest image k =
+    bodyHoldsUnder limit (bodyAt image k) && alike newest (savedAt (bodyAt image k) 0) && same (trailerAt image k) (trailerBytes k)
 
 -- ---- an image
 
@@ -246,11 +247,24 @@ abbrev pub newestIn : Image → ℕ → Saved
 newestIn image used = savedAt (bodyAt image (entries used)) 0
 
 -- "The used length is a multiple of 560, at most 65,520; all entries have the same N. .. every entry must hold"
-unfoldable pub readable : Image → ℕ → Bool
-readable image used =
+unfoldable pub readableUnder : ℕ → Image → ℕ → Bool
+readableUnder limit image used =
     eqb (used % entrySize) 0
     && leb used (entrySize * entryLimit)
-    && every (entries used) (entryHolds (newestIn image used) image)
+    && every (entries used) (entryHoldsUnder limit (newestIn image used) image)
+
+-- .. under the limit of this handler
+abbrev pub inRange : Saved → Bool
+inRange = inRangeUnder nativeLimit
+
+abbrev pub bodyHolds : List ℕ → Bool
+bodyHolds = bodyHoldsUnder nativeLimit
+
+abbrev pub entryHolds : Saved → Image → ℕ → Bool
+entryHolds = entryHoldsUnder nativeLimit
+
+abbrev pub readable : Image → ℕ → Bool
+readable = readableUnder nativeLimit
 
 -- "Reading starts at the last trailer and follows the chain back": n entries, the last trailer at a place. It is equivalent to
 -- "every entry" above (proofs/ImageLaws.antt, chain-every).
@@ -265,9 +279,12 @@ sameDisk native image used = eqb used 0 || eqb (newestIn image used .native) nat
 
 -- "an image's used length exceeds its buffer" (2); "image not readable by the rules below" (6); "newest entry's N is not this disk's" (7):
 -- what a save and a power-on require of an image
+abbrev pub imageChecksUnder : ℕ → ℕ → Image → ℕ → List Check
+imageChecksUnder limit native image used =
+    (leb used (length image), badLength) ∷ (readableUnder limit image used, badImage) ∷ (sameDisk native image used, otherDisk) ∷ []
+
 abbrev pub imageChecks : ℕ → Image → ℕ → List Check
-imageChecks native image used =
-    (leb used (length image), badLength) ∷ (readable image used, badImage) ∷ (sameDisk native image used, otherDisk) ∷ []
+imageChecks = imageChecksUnder nativeLimit
 
 -- ---- save
 
@@ -288,7 +305,7 @@ savedImage d image used = sets image used (bodyBytes (savedFrom (chainForm image
 
 -- ---- power-on
 
--- "power-on: not 1 to 65,536 whole sectors"
+-- "power-on: not 1 to 65,536 whole sectors"; W-207: ".. answer 2 take the new limit"
 abbrev pub wholeSectors : ℕ → Bool
 wholeSectors size = eqb (size % sectorSize) 0 && between 1 (size / sectorSize) nativeLimit
 

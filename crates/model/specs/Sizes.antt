@@ -2,16 +2,16 @@
 use Prim.Native.Nat.{ℕ, _+_, _*_}
 use mathlib.Core.List.{List, [], _∷_}
 
--- "Disk: a lent run of 1 to 65,536 sectors of 512 bytes (native size N)."
+-- "Disk: a lent run of 1 to 65,536 sectors of 512 bytes (native size N)."; W-207: "Raise the native limit to 16,777,216 sectors."
 abbrev pub sectorSize : ℕ
 sectorSize = 512
+
+abbrev pub nativeLimit : ℕ
+nativeLimit = 16777216
 
 -- W-202: "a lent check area, two bytes a sector"
 abbrev pub checkSize : ℕ
 checkSize = 2
-
-abbrev pub nativeLimit : ℕ
-nativeLimit = 65536
 
 -- "Ports 0 to 3."
 abbrev pub portCount : ℕ

@@ -82,7 +82,7 @@ pub record ThermalValid (interval : ℕ) (t : Thermal) : Type 0 where
   pub bytes : (t .current < 256) × (t .cycleMaximum < 256) × (t .lifeMaximum < 256)
 
 pub record Valid (d : Device) : Type 0 where
-  -- "1 ≤ V ≤ N ≤ 65,536"
+  -- "1 ≤ V ≤ N ≤ 65,536"; W-207: "Sound records .. take the new limit"
   pub sizes : (1 ≤ d .visible) × (d .visible ≤ d .native) × (d .native ≤ nativeLimit)
   pub commandValid : CommandValid (d .visible) (d .command)
   pub settingsValid : SettingsValid (d .settings)

@@ -137,7 +137,7 @@ fn settings_sound(s: Settings) -> bool
         )
 }
 
-// "1 ≤ V ≤ N ≤ 65,536"; "minutes counted are below it, the history index is at most 477". The history is not checked.
+// "1 ≤ V ≤ N ≤ 65,536"; W-207: "Sound records .. take the new limit"; "minutes counted are below it, the history index is at most 477". The history is not checked.
 pub fn device_sound(device: &[u8]) -> bool
     requires { ⌜ length (now device) ≡ recordSize ⌝ }
     ensures { λ res. ⌜ res ≡ deviceSound (decode (now (device .entry)) .device) ⌝ }

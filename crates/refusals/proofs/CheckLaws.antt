@@ -18,7 +18,7 @@ use Rattle.store.specs.Sound.{sound}
 use Rattle.store.specs.Entries.{hasSectors, goodPort, inStage, mailboxChecks, serveChecks, workChecks, repairChecks}
 use Rattle.store.proofs.SoundLaws.{sound-parts, sound-valid}
 
--- "N ≤ 65,536"
+-- "N ≤ 65,536"; W-207: "Sound records .. take the new limit"
 pub native-limit : (r : List ℕ) → Bytes r → sound r ≡ true → decode r .device .native ≤ nativeLimit
 native-limit r b s = sound-valid r b s .device .sizes .2
 

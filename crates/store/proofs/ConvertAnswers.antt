@@ -13,7 +13,7 @@ use Rattle.wire.specs.Numbers.{get}
 use Rattle.wire.specs.Bytes.{Bytes}
 use Rattle.wire.proofs.ChoiceLaws.{first-bound, attempt-answer, attempt-done, attempt-refused}
 use Rattle.model.specs.Disk.{Disk, nativeSize}
-use Rattle.model.specs.Image.{formOf, readable}
+use Rattle.model.specs.Image.{formOf, readableUnder, readable}
 use Rattle.model.specs.Convert.{converted, entryTimers, convertChecks}
 use Rattle.model.proofs.ConvertedBytes.{length-converted, Elsewhere, converted-elsewhere}
 use Rattle.model.proofs.ConvertRefusals.{convert-numbered, one-form, HasOtherTimers, no-other-timers, nine-exactly, convert-to-one, convert-to-two}
@@ -77,7 +77,7 @@ module _ (image : List ℕ) (used entryForm : ℕ) where
 
 -- THEOREM: an empty image stays, whichever form is asked for.
 pub empty-stays : (image : List ℕ) (entryForm : ℕ) → (entryForm ≡ 1) ⊎ (entryForm ≡ 2) → convertBytes image 0 entryForm ≡ record { answer = 0; image = image }
-unfolding convertBytes readable
+unfolding convertBytes readableUnder
 empty-stays image entryForm (inl e) = rw (e, le-leb 0 (length image) zero-le)
 empty-stays image entryForm (inr e) = rw (e, le-leb 0 (length image) zero-le)
 

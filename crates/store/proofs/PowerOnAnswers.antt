@@ -28,12 +28,12 @@ pub power-on-answer : (r a : List ℕ) (disk : Disk) (image : List ℕ) (used : 
 unfolding powerOnBytes
 power-on-answer r a disk image used = attempt-answer (powerOnEntry r a disk image used) (λ (o : PowerOnAfter). o .answer) refl (λ n. refl)
 
--- THEOREM: a power-on answers 0 exactly if the paper names no refusal: record and private area have their sizes, the disk is 1 to 65,536 whole
--- sectors (512 to 33,554,432 bytes, a multiple of 512) with two check bytes each, the used length is within the buffer, the image is readable, its newest entry this disk's.
+-- THEOREM: a power-on answers 0 exactly if the paper names no refusal: record and private area have their sizes, the disk is 1 to 16,777,216 whole
+-- sectors (512 to 8,589,934,592 bytes, a multiple of 512) with two check bytes each, the used length is within the buffer, the image is readable, its newest entry this disk's.
 pub power-on-exactly : (r a : List ℕ) (disk : Disk) (image : List ℕ) (used : ℕ)
     → let size = length (disk .sectors) in
     (powerOnBytes r a disk image used .answer ≡ 0)
-    ↔ ((length r ≡ recordSize) × (length a ≡ privateSize) × ((size % 512 ≡ 0) × (512 ≤ size) × (size ≤ 33554432)) × (length (disk .checkArea) ≡ 2 * (size / 512)) × (used ≤ length image) × (readable image used ≡ true) × (sameDisk (size / 512) image used ≡ true))
+    ↔ ((length r ≡ recordSize) × (length a ≡ privateSize) × ((size % 512 ≡ 0) × (512 ≤ size) × (size ≤ 8589934592)) × (length (disk .checkArea) ≡ 2 * (size / 512)) × (used ≤ length image) × (readable image used ≡ true) × (sameDisk (size / 512) image used ≡ true))
 power-on-exactly r a disk image used = (
   λ e.
       let pass = all-pass 8 (powerOnChecks r a disk image used) (omega arith) (sym (power-on-answer r a disk image used) ∙ e) in (
@@ -61,8 +61,8 @@ power-on-exactly r a disk image used = (
       ),
 )
 
--- THEOREM: it answers 0 for every disk of 1 to 65,536 whole sectors, with its check area, and used length 0.
-pub power-on-fresh : (r a : List ℕ) (disk : Disk) (image : List ℕ) (n : ℕ) → length r ≡ recordSize → length a ≡ privateSize → HasSize n disk → 1 ≤ n → n ≤ 65536
+-- THEOREM: it answers 0 for every disk of 1 to 16,777,216 whole sectors, with its check area, and used length 0.
+pub power-on-fresh : (r a : List ℕ) (disk : Disk) (image : List ℕ) (n : ℕ) → length r ≡ recordSize → length a ≡ privateSize → HasSize n disk → 1 ≤ n → n ≤ 16777216
     → powerOnBytes r a disk image 0 .answer ≡ 0
 power-on-fresh r a disk image n size private sized some most =
     power-on-answer r a disk image 0

@@ -42,7 +42,7 @@ pub record NoRefusal (r : Record) (a : Area) (disk : Disk) (image : Image) (used
   -- "a lent buffer isn't of its size"
   pub recordSized : length r ≡ recordSize
   pub areaSized : length a ≡ privateSize
-  -- "Disk: a lent run of 1 to 65,536 sectors of 512 bytes (native size N)."
+  -- "Disk: a lent run of 1 to 65,536 sectors of 512 bytes (native size N)."; W-207: "Conditions 2 and 3 read the new limit."
   pub native : ℕ
   pub diskSized : length (disk .sectors) ≡ sectorSize * native
   pub some : 1 ≤ native

@@ -45,7 +45,7 @@ settingsSound s =
     && timerNamed (s .writeTimer)
     && statesNamed (s .writeCache .state) (s .reordering .state) (s .logInterval .state)
 
--- "1 ≤ V ≤ N ≤ 65,536"; "minutes counted are below it, the history index is at most 477"
+-- "1 ≤ V ≤ N ≤ 65,536"; W-207: "Sound records .. take the new limit"; "minutes counted are below it, the history index is at most 477"
 unfoldable pub deviceSound : Device → Bool
 deviceSound d =
     (leb 1 (d .visible) && leb (d .visible) (d .native) && leb (d .native) nativeLimit)

@@ -1,11 +1,12 @@
 -- `image::entry::values_in_range` meets its contract.
-use Rattle.model.specs.Image.{savedAt, inRange}
+use mathlib.Core.Path.{refl}
+use Rattle.model.specs.Image.{savedAt, inRangeUnder}
 use borrow.Author.Needs.{needs}
 use Rattle.image.proofs.entry.values_in_range.Statement.{statement}
 use Rattle.image.proofs.entry.values_in_range.Tie as tie
 
 returns : tie.Need-returns
-unfolding inRange savedAt
+unfolding inRangeUnder savedAt
 returns c =
     let at-states-named = c .before in
     let at-timers-at = at-states-named .before in
@@ -26,6 +27,7 @@ returns c =
       c .timers-named .ensures,
       at-timers-at .timers-at .ensures,
     )
+    refl
 
 pub values-in-range-spec : {M : Type 1} → statement M
 values-in-range-spec =

@@ -1,27 +1,33 @@
-#define _DEFAULT_SOURCE     /* MAP_ANONYMOUS */
+#define _DEFAULT_SOURCE     /* MAP_ANONYMOUS, madvise */
 #include "arena.h"
 
 #include <stdio.h>
 #include <stdlib.h>
 #include <sys/mman.h>
 
-enum { GUARD_BYTES = 64, GUARD = 0xA7, PAGE = 4096, SHIFTS = 16 };
+enum { GUARD_BYTES = 64, GUARD = 0xA7, SHIFTS = 16 };
 
 const char *const placement_name[PLACEMENTS] = { "anywhere", "at the end of a page", "at the start of a page" };
 
+static void need_memory(bool there)
+{
+    if (there)
+        return;
+    perror("no memory for the buffers");
+    exit(2);
+}
+
 void arena_make(struct arena *arena, size_t largest)
 {
-    size_t capacity = (largest + 2 * GUARD_BYTES + SHIFTS + PAGE - 1) / PAGE * PAGE;
-    uint8_t *map = mmap(NULL, capacity + 2 * PAGE, PROT_READ | PROT_WRITE,
+    size_t capacity = (largest + 2 * GUARD_BYTES + SHIFTS + PAGE_BYTES - 1) / PAGE_BYTES * PAGE_BYTES;
+    uint8_t *map = mmap(NULL, capacity + 2 * PAGE_BYTES, PROT_READ | PROT_WRITE,
                         MAP_PRIVATE | MAP_ANONYMOUS | MAP_NORESERVE, -1, 0);
 
-    if (map == MAP_FAILED ||
-        mprotect(map, PAGE, PROT_NONE) != 0 ||
-        mprotect(map + PAGE + capacity, PAGE, PROT_NONE) != 0) {
-        perror("no memory for the buffers");
-        exit(2);
-    }
-    arena->base = map + PAGE;
+    need_memory(map != MAP_FAILED &&
+                mprotect(map, PAGE_BYTES, PROT_NONE) == 0 &&
+                mprotect(map + PAGE_BYTES + capacity, PAGE_BYTES, PROT_NONE) == 0);
+    (void)madvise(map + PAGE_BYTES, capacity, MADV_NOHUGEPAGE); /* a byte takes 4 KiB, not 2 MiB; it need not be heeded */
+    arena->base = map + PAGE_BYTES;
     arena->capacity = capacity;
     arena->buffer = arena->base;
     arena->length = 0;
@@ -65,4 +71,9 @@ bool arena_guards_hold(const struct arena *arena)
         if (arena->buffer[arena->length + i] != GUARD)
             return false;
     return true;
+}
+
+void arena_clear(struct arena *arena)
+{
+    need_memory(madvise(arena->base, arena->capacity, MADV_DONTNEED) == 0);
 }

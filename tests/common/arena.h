@@ -2,9 +2,10 @@
  * arena.h - buffers with guards.
  *
  * An arena is a run of pages with a page before and after it that nobody may
- * touch. A buffer is in one of three places in it: in the middle at any
- * alignment, at the very end (one byte too far faults), or at the very start.
- * The bytes around a buffer are guard bytes, and are checked.
+ * touch. It is reserved, and takes memory only where it is written, so it can be
+ * as long as the largest disk. A buffer is in one of three places in it: in the
+ * middle at any alignment, at the very end (one byte too far faults), or at the
+ * very start. The bytes around a buffer are guard bytes, and are checked.
  */
 #ifndef ARENA_H
 #define ARENA_H
@@ -13,18 +14,20 @@
 #include <stddef.h>
 #include <stdint.h>
 
+enum { PAGE_BYTES = 4096 };
+
 enum placement { LOOSE, AT_END, AT_START, PLACEMENTS };
 
 extern const char *const placement_name[PLACEMENTS];
 
 struct arena {
     uint8_t *base;
-    size_t   capacity;
+    size_t   capacity;      /* whole pages */
     uint8_t *buffer;
     size_t   length;
 };
 
-/* Room for a buffer of up to `largest` bytes. Ends the program if there is none. */
+/* Room for a buffer of up to `largest` bytes, all zeros. Ends the program if there is none. */
 void arena_make(struct arena *arena, size_t largest);
 
 /* A buffer of `length` bytes; `shift` (0 to 15) is the alignment of a loose one. */
@@ -32,5 +35,8 @@ uint8_t *arena_place(struct arena *arena, size_t length, enum placement placemen
 
 /* The guard bytes around the buffer are as they were when it was placed. */
 bool arena_guards_hold(const struct arena *arena);
+
+/* Gives the memory back: all is zeros again, guard bytes too, until a buffer is placed. */
+void arena_clear(struct arena *arena);
 
 #endif
