@@ -267,8 +267,7 @@ static double run_copies(unsigned times)
 
     for (unsigned i = 0; i < times; i++) {
         for (size_t k = 0; k < SECTORS; k++)
-            memcpy(disk + k * SCT_SECTOR_BYTES, sector, SCT_SECTOR_BYTES);
-        __asm__ volatile("" : : : "memory");    /* the copies must not be optimized away */
+            copy_bytes(disk + k * SCT_SECTOR_BYTES, sector, SCT_SECTOR_BYTES);
     }
     return (nanoseconds_now() - from) / times / SECTORS;
 }

@@ -76,25 +76,26 @@ extern "C" {
 /* ---- Sizes --------------------------------------------------------------- */
 
 /*
- * The sizes of a sector and of its check have 64 bits, so that a product with a
- * number of sectors does not wrap: a disk of 8 GiB has 2^33 bytes.
+ * SCT_SECTOR_BYTES, SCT_CHECK_BYTES and SCT_NATIVE_LIMIT are constants of 64
+ * bits, so that a product with them does not wrap: a disk of 8 GiB has 2^33
+ * bytes.
  */
-#define SCT_PORTS            4u        /* ports are 0 to 3 */
-#define SCT_SECTOR_BYTES     512ull
-#define SCT_CHECK_BYTES      2ull      /* of a sector, in the check area */
+#define SCT_PORTS            4u                 /* ports are 0 to 3 */
+#define SCT_SECTOR_BYTES     UINT64_C(512)
+#define SCT_CHECK_BYTES      UINT64_C(2)        /* of a sector, in the check area */
 #define SCT_REGISTER_BYTES   16u
-#define SCT_DATA_BYTES       1024u     /* two sectors */
-#define SCT_MAILBOX_BYTES    1040u     /* registers, then data */
-#define SCT_PRIVATE_BYTES    4672u     /* four slots, then the fill sector */
+#define SCT_DATA_BYTES       1024u              /* two sectors */
+#define SCT_MAILBOX_BYTES    1040u              /* registers, then data */
+#define SCT_PRIVATE_BYTES    4672u              /* four slots, then the fill sector */
 #define SCT_RECORD_BYTES     1024u
-#define SCT_ENTRY_BYTES      560u      /* one saved entry */
+#define SCT_ENTRY_BYTES      560u               /* one saved entry */
 #define SCT_ENTRIES_LIMIT    117u
-#define SCT_IMAGE_LIMIT      65520u    /* 117 entries */
-#define SCT_NATIVE_LIMIT     16777216u /* sectors */
-#define SCT_FORM_1           1u        /* entries without timers */
-#define SCT_FORM_2           2u        /* with them */
-#define SCT_STACK_BYTES      648u      /* of stack, for any call */
-#define SCT_STACK_AT_MEMSET  504u      /* of these, in use where memset begins */
+#define SCT_IMAGE_LIMIT      65520u             /* 117 entries */
+#define SCT_NATIVE_LIMIT     UINT64_C(16777216) /* sectors */
+#define SCT_FORM_1           1u                 /* entries without timers */
+#define SCT_FORM_2           2u                 /* with them */
+#define SCT_STACK_BYTES      648u               /* of stack, for any call */
+#define SCT_STACK_AT_MEMSET  504u               /* of these, in use where memset begins */
 
 /* ---- Answers ------------------------------------------------------------- */
 

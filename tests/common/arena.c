@@ -5,7 +5,7 @@
 #include <stdlib.h>
 #include <sys/mman.h>
 
-enum { GUARD_BYTES = 64, GUARD = 0xA7, SHIFTS = 16 };
+enum { GUARD = 0xA7, SHIFTS = 16 };
 
 const char *const placement_name[PLACEMENTS] = { "anywhere", "at the end of a page", "at the start of a page" };
 

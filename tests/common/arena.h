@@ -14,7 +14,7 @@
 #include <stddef.h>
 #include <stdint.h>
 
-enum { PAGE_BYTES = 4096 };
+enum { PAGE_BYTES = 4096, GUARD_BYTES = 64 };
 
 enum placement { LOOSE, AT_END, AT_START, PLACEMENTS };
 

@@ -2,7 +2,10 @@
 #include "measure.h"
 
 #include <stdlib.h>
+#include <string.h>
 #include <time.h>
+
+void *(*const volatile copy_bytes)(void *to, const void *from, size_t count) = memcpy;
 
 double nanoseconds_now(void)
 {

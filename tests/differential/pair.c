@@ -10,13 +10,13 @@
 /* The longest that each buffer gets: right lengths, and wrong ones above them. */
 static const size_t room[BUFFERS] = {
     2 * SCT_RECORD_BYTES, 2 * SCT_PRIVATE_BYTES, 2 * SCT_MAILBOX_BYTES, IMAGE_ROOM,
-    (size_t)TEST_SECTORS * SCT_SECTOR_BYTES, (size_t)TEST_SECTORS * SCT_CHECK_BYTES
+    TEST_SECTORS * SCT_SECTOR_BYTES, TEST_SECTORS * SCT_CHECK_BYTES
 };
 
 /* For disks and check areas of wrong lengths: the longest, and how much of a long one is looked at. */
 static const size_t other_room[BUFFERS] = {
-    [DISK]       = ((size_t)SCT_NATIVE_LIMIT + 2) * SCT_SECTOR_BYTES,
-    [CHECK_AREA] = 2 * (size_t)SCT_NATIVE_LIMIT * SCT_CHECK_BYTES + SCT_SECTOR_BYTES
+    [DISK]       = (SCT_NATIVE_LIMIT + 2) * SCT_SECTOR_BYTES,
+    [CHECK_AREA] = 2 * SCT_NATIVE_LIMIT * SCT_CHECK_BYTES + SCT_SECTOR_BYTES
 };
 
 enum { OTHER_SEEN = 1 << 16 };

@@ -731,7 +731,7 @@ static void make_entry(struct pair *pair, struct random *r, uint64_t native)
     pair->used = SCT_ENTRY_BYTES;
 }
 
-/* A power-on with such a disk, from nothing and from an entry of each size; then the record is saved and V set to N. */
+/* A power-on with such a disk, from an entry of each size and from nothing; the record is saved, with V set to each size too. */
 static bool try_size(struct pair *pair, struct statistics *s, struct random *r, uint64_t sectors)
 {
     struct step step = power_on_of(pair, sectors);

@@ -249,15 +249,15 @@ static void poll(uint32_t port, struct status s)
 /* The first sectors are filled, the other visible ones zeros, the hidden ones as they were; all checks are right. */
 static int disk_is(unsigned filled)
 {
-    for (unsigned i = 0; i < sizeof disk; i++) {
-        unsigned sector = i / SCT_SECTOR_BYTES;
-        unsigned place = i % SCT_SECTOR_BYTES;
+    for (size_t i = 0; i < sizeof disk; i++) {
+        size_t sector = i / SCT_SECTOR_BYTES;
+        size_t place = i % SCT_SECTOR_BYTES;
         int byte = sector < filled ? "DEMO"[place % 4] : sector < VISIBLE ? 0 : (int)(place % 251);
 
         if (disk[i] != byte)
             return 0;
     }
-    for (unsigned i = 0; i < NATIVE; i++)
+    for (size_t i = 0; i < NATIVE; i++)
         if ((check_area[2 * i] | check_area[2 * i + 1] << 8) != check_of(disk + i * SCT_SECTOR_BYTES))
             return 0;
     return 1;
@@ -268,7 +268,7 @@ static int disk_is(unsigned filled)
 /* A new disk shows all its sectors: hide some before the first take. Power-on makes no check bytes. */
 static void start(void)
 {
-    for (unsigned i = VISIBLE * SCT_SECTOR_BYTES; i < sizeof disk; i++)
+    for (size_t i = VISIBLE * SCT_SECTOR_BYTES; i < sizeof disk; i++)
         disk[i] = (uint8_t)(i % SCT_SECTOR_BYTES % 251);
     make_check_bytes();
     EXPECT(power_on() == SCT_DONE);

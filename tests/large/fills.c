@@ -111,9 +111,12 @@ static void stopped_fill(void)
     disks_hold();
 }
 
-/* ---- Fills of more than 65,536 sectors ----------------------------------------------- */
+/* ---- Fills of 65,536 sectors and more ------------------------------------------------ */
 
-/* One call writes them all. A fill from 0 that does not end at V sets no flag, though end and V have the same low 16 bits. */
+/*
+ * One call writes them all. A fill from 0 that does not end at V sets no flag,
+ * though end and V have the same low 16 bits.
+ */
 static void fill_of_65536(void)
 {
     uint8_t sector[SCT_SECTOR_BYTES];
@@ -175,6 +178,26 @@ static void whole_disk(uint64_t native, uint64_t visible, uint64_t count)
     disks_hold();
 }
 
+/* A fill of all 16,777,216 sectors, of which the record says that all but five are written: its end sets the flag. */
+static void end_of_whole_disk(void)
+{
+    uint8_t sector[SCT_SECTOR_BYTES];
+    struct record_fields f;
+
+    begin("the end of a fill of 16,777,216 sectors", MOST_SECTORS);
+    start();
+    ask_fill(1, 0, 16777216, 16777216, sector);
+    f = *fields();
+    f.next = 16777211;
+    for (int s = 0; s < 2; s++)
+        encode_record(twin.side[s].record, &f);
+    expect_work(4, 4);
+    expect_status(5, 0xFFFF, 16777215, 0);
+    expect_work(0xFFFFFFFF, 1);
+    fill_over(16777211, 16777216, sector, 1);
+    disks_hold();
+}
+
 /* ---- Disks of other sizes ------------------------------------------------------------ */
 
 /* The last sectors of a disk of so many: written, filled, read; there is none behind them. */
@@ -210,6 +233,7 @@ void run_fills(void)
     fill_to_last();
     whole_disk(16777216, 65537, 0);
     whole_disk(65537, 65537, 65537);
+    end_of_whole_disk();
     last_of("a disk of 65,537 sectors", 65537);
     last_of("a disk of 8,388,609 sectors", 8388609);
     last_of("a disk of 16,777,215 sectors", 16777215);

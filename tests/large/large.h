@@ -9,7 +9,7 @@ void run_fills(void);
 /* Random exchanges. */
 void run_random(void);
 
-/* A fill of 1 GiB, and its time; the time of each entry on a small disk and on the largest. */
+/* A fill of 1 GiB, and its time; the time of calls on a small disk and on the largest. */
 void run_gigabyte(void);
 void run_times(void);
 

@@ -287,6 +287,10 @@ static void images(void)
         expect("answer of save", BOTH(save, 1120) >> 32, sizes[i].answer);
     }
     put_sizes(16777216, 16777216);
+    for (int s = 0; s < 2; s++)
+        put64(twin.side[s].image, 65536);       /* "all entries have the same N" */
+    expect("answer of power-on, two N", BOTH(power_on, 1120) >> 32, SCT_BAD_IMAGE);
+    put_sizes(16777216, 16777216);
     pass_lengths(8589934080, 33554430);
     expect("answer of power-on, one sector less", BOTH(power_on, 1120) >> 32, SCT_OTHER_DISK);
     pass_lengths(33554432, 131072);

@@ -1,6 +1,6 @@
 /*
  * times.c - a fill of 1 GiB, and times: that of the fill beside memcpy of the
- * same sectors, and that of each entry on a disk of 64 sectors beside the largest.
+ * same sectors, and that of calls on a disk of 64 sectors beside the largest.
  * What is compared is measured in turn within each round; the medians of the
  * rounds are printed.
  */
@@ -70,8 +70,7 @@ static double time_of_copies(struct side *side)
     pattern_sector(sector);
     from = nanoseconds_now();
     for (uint64_t lba = GIGABYTE_FIRST; lba < MOST_SECTORS; lba++)
-        memcpy(side->disk.buffer + lba * SCT_SECTOR_BYTES, sector, SCT_SECTOR_BYTES);
-    __asm__ volatile("" : : : "memory");    /* the copies must not be optimized away */
+        copy_bytes(side->disk.buffer + lba * SCT_SECTOR_BYTES, sector, SCT_SECTOR_BYTES);
     return (nanoseconds_now() - from) / GIGABYTE_SECTORS;
 }
 
@@ -96,7 +95,7 @@ void run_gigabyte(void)
     printf("%-36s %10.1f %10.1f %8.2f\n", "work, a sector, 65536 in a call", work, copy, work / copy);
 }
 
-/* ---- Each entry on a small disk and on the largest ------------------------------------ */
+/* ---- Calls on a small disk and on the largest ----------------------------------------- */
 
 enum { SMALL_SECTORS = 64, TIMES = 2000, ROUNDS = 31 };
 

@@ -69,6 +69,8 @@ void twin_make(void)
 
 void pass_lengths(size_t disk_length, size_t check_length)
 {
+    expect("lengths within the buffers", disk_length <= twin.side[0].disk.length &&
+                                         check_length <= twin.side[0].check_area.length, true);
     for (int s = 0; s < 2; s++) {
         twin.side[s].disk_length = disk_length;
         twin.side[s].check_length = check_length;
@@ -335,6 +337,18 @@ static const struct run *run_of(uint64_t lba)
     return &zeros;
 }
 
+/* What these bytes must hold, so many for each sector: zeros before the buffer, which nobody may write. */
+static const struct run *run_at(const struct arena *arena, const uint8_t *at, size_t bytes)
+{
+    return run_of(at < arena->buffer ? UINT64_MAX : (uint64_t)(at - arena->buffer) / bytes);
+}
+
+/* These bytes are, or have, some of the guard bytes before the buffer. */
+static bool is_guard(const struct arena *arena, const uint8_t *at, size_t bytes)
+{
+    return at < arena->buffer && at + bytes > arena->buffer - GUARD_BYTES;
+}
+
 /* A page has whole sectors, as the disk ends at one's end. */
 static void disk_page_holds(size_t page)
 {
@@ -345,9 +359,9 @@ static void disk_page_holds(size_t page)
     for (const uint8_t *at = from; at < from + PAGE_BYTES; at += SCT_SECTOR_BYTES) {
         const uint8_t *wanted;
 
-        if (at < disk->buffer)
+        if (is_guard(disk, at, SCT_SECTOR_BYTES))
             continue;
-        wanted = run_of((uint64_t)(at - disk->buffer) / SCT_SECTOR_BYTES)->sector;
+        wanted = run_at(disk, at, SCT_SECTOR_BYTES)->sector;
         if (memcmp(at, wanted, SCT_SECTOR_BYTES) != 0) {
             print_byte("disk", disk->buffer, at, wanted, SCT_SECTOR_BYTES);
             differ("not what the disk must hold");
@@ -362,10 +376,15 @@ static void check_page_holds(size_t page)
 
     check_page_agrees(page);
     for (const uint8_t *at = from; at < from + PAGE_BYTES; at += SCT_CHECK_BYTES) {
-        if (at < area->buffer)
+        uint8_t wanted[SCT_CHECK_BYTES];
+
+        if (is_guard(area, at, SCT_CHECK_BYTES))
             continue;
-        expect("not what the check area must hold", get16(at),
-               run_of((uint64_t)(at - area->buffer) / SCT_CHECK_BYTES)->check);
+        put16(wanted, run_at(area, at, SCT_CHECK_BYTES)->check);
+        if (memcmp(at, wanted, SCT_CHECK_BYTES) != 0) {
+            print_byte("check area", area->buffer, at, wanted, SCT_CHECK_BYTES);
+            differ("not what the check area must hold");
+        }
     }
 }
 

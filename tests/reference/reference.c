@@ -131,6 +131,7 @@
  * 103   the status sector has 16 bits of the next LBA
  * 104   the end of a fill from 0 is compared with V in 16 bits
  * 105   a sector's LBA has 24 bits, as those of the largest disk fit in them
+ * 106   the end of a fill from 0 is compared with 24 bits of V
  */
 #ifdef PLANT
 #define PLANTED(n) (PLANT == (n))
@@ -663,7 +664,8 @@ static void stop_and_drop(struct device *d)
  */
 static void end_fill(struct device *d)
 {
-    bool to_last = narrowed(PLANTED(104), 16, d->end) == narrowed(PLANTED(104), 16, d->visible);
+    uint64_t visible = narrowed(PLANTED(104), 16, narrowed(PLANTED(106), 24, d->visible));
+    bool to_last = narrowed(PLANTED(104), 16, d->end) == visible;
 
     if (d->first == 0 && (to_last || PLANTED(15)))
         d->initialized = 1;
