@@ -3,7 +3,7 @@ ghost use Rattle.std.specs.Prelude.{◌≡◌, ◌≤◌};
 ghost use Rattle.console.specs.Records.{arrival_of};
 
 // What a read of one record returned: all of it, a part of it, or nothing.
-#[derive(Drop)]
+#[derive(Clone, Copy)]
 pub enum Arrival {
     Whole,
     Cut,

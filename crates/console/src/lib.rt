@@ -1,5 +1,7 @@
 // Text for programs: lines of output written piece by piece (line.rt), and input that comes in records (input.rt).
 // The definitions that the contracts cite are in specs/.
+#![tactic(auto)]
+
 mod input;
 mod line;
 

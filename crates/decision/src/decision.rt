@@ -10,7 +10,7 @@ use reply::Reply;
 
 // What is to be written: a sector at an LBA, or a fill that begins, with its first sector and its end. The content is in the slot: its
 // data for Sector and DataFill, the same with the check bytes behind it for LongSector, the pattern of its key for PatternFill.
-#[derive(Drop)]
+#[derive(Clone, Copy)]
 pub enum Writing {
     Nothing,
     Sector(u64),
@@ -21,7 +21,7 @@ pub enum Writing {
 
 // What the reply is to carry: the temperature table, the sector at an LBA, or that sector with its check bytes as stored. A status read, whose
 // reply carries the status sector, is answered without a decision by value (status_read).
-#[derive(Drop)]
+#[derive(Clone, Copy)]
 pub enum Sending {
     Nothing,
     Temperatures,
@@ -30,7 +30,7 @@ pub enum Sending {
 }
 
 // `empties`: the temperature history, which the record's bytes hold and the device does not, is to be emptied.
-#[derive(Drop)]
+#[derive(Clone, Copy)]
 pub struct Decision {
     pub device: Device,
     pub reply: Reply,

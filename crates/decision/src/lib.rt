@@ -1,4 +1,6 @@
 // A decision by value (decision.rt), and what an accepted key decides (accepted.rt). Nothing here writes.
+#![tactic(auto)]
+
 mod accepted;
 mod decision;
 

@@ -1,4 +1,6 @@
 // The desk program: reads records of one byte and a mailbox from standard input, serves them on one fresh 64-sector disk, prints a line for each.
+#![tactic(auto)]
+
 ghost use Rattle.std.specs.Prelude.{◌≡◌, suc, length};
 ghost use Rattle.model.specs.Sizes.{mailbox_size};
 ghost use Rattle.store.specs.Areas.{record_size};

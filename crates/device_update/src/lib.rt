@@ -1,4 +1,6 @@
 // How the device changes, by value: a fill stopped, started and advanced (command.rt); lock, visible size and repair (owner.rt).
+#![tactic(auto)]
+
 mod command;
 mod owner;
 

@@ -1,4 +1,6 @@
 // The recovery timers of an entry of the saved image (W-204): the enum, its meaning in numbers, and its bytes (timers.rt).
+#![tactic(auto)]
+
 mod timers;
 
 pub use timers::{

@@ -10,7 +10,7 @@ use layout::entry;
 use record::Settings;
 
 // Form 1 leaves the timers out; form 2 has the read and the write timer.
-#[derive(Drop)]
+#[derive(Clone, Copy)]
 pub enum SavedTimers {
     LeftOut,
     Stored(u16, u16),

@@ -1,4 +1,6 @@
 // The background fill on the bytes: the sector that it writes (sector.rt), and how it advances under a budget (steps.rt).
+#![tactic(auto)]
+
 mod sector;
 mod steps;
 

@@ -1,4 +1,6 @@
 // How the saved image is read: one entry tested in place (entry.rt), the chain of entries (chain.rt), and the answers to an image (refusal.rt).
+#![tactic(auto)]
+
 mod chain;
 mod entry;
 mod refusal;

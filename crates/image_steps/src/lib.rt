@@ -1,4 +1,6 @@
 // The steps with a saved image: save and power-on.
+#![tactic(auto)]
+
 mod images;
 
 pub use images::{power_on, save};

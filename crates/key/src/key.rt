@@ -15,7 +15,7 @@ use wire::{u16_at, u64_at};
 
 // A long sector access has its direction and LBA. A fill's numbers are its first sector and its end. A timer is set to a number of 100 ms; a
 // feature to a state, with true if the option is 1: "Option 1 keeps a state over power".
-#[derive(Drop)]
+#[derive(Clone, Copy)]
 pub enum Action {
     AccessLong(Direction, u64),
     FillPattern(u64, u64),
@@ -29,7 +29,7 @@ pub enum Action {
 }
 
 // A key is accepted with what it asks for, or refused with its code and (W-206) the word that caused it.
-#[derive(Drop)]
+#[derive(Clone, Copy)]
 pub enum Verdict {
     Accepted(Action),
     Rejected(Refusal),

@@ -1,4 +1,6 @@
 // The key sector: its checks in order, and what an accepted key asks for.
+#![tactic(auto)]
+
 mod key;
 mod refusal;
 

@@ -1,7 +1,7 @@
 // W-206: why a key is refused: the extended status code, and the word that caused it.
 use layout::sct;
 
-#[derive(Drop)]
+#[derive(Clone, Copy)]
 pub struct Refusal {
     pub code: u16,
     pub word: u8,

@@ -1,5 +1,6 @@
 // The numbers of document 01 that the code uses: sizes here, in bytes unless stated otherwise; offsets, codes and answers in the modules.
 // The definitions are in crates/model/specs and crates/store/specs; that code and definitions agree is proved where the numbers are used.
+#![tactic(auto)]
 
 pub mod answer;
 pub mod ata;

@@ -1,4 +1,6 @@
 // The device record: the device as a struct (device.rt), decoded from the record's bytes (codec.rt); the names in requests and keys (names.rt).
+#![tactic(auto)]
+
 mod codec;
 mod device;
 mod names;

@@ -1,4 +1,6 @@
 // How a device's fields are stored in a record: cases as numbers (cases.rt), and the fields of the first half by groups (groups.rt).
+#![tactic(auto)]
+
 mod cases;
 mod groups;
 

@@ -1,4 +1,6 @@
 // How a record is written: the device's fields (fields.rt), readings of the history (history.rt), and an initialised record (framing.rt).
+#![tactic(auto)]
+
 mod fields;
 mod framing;
 mod history;

@@ -1,4 +1,6 @@
 // The repair step on record, visible disk and check area: a sector repaired by its check bytes, and the device afterwards.
+#![tactic(auto)]
+
 mod repairing;
 
 pub use repairing::repair;

@@ -13,7 +13,7 @@ use wire::put_u8;
 const BYTE: u16 = 256;
 
 // `value` goes in Sector Count (low) and LBA Low (high). LBA Mid has the number of sectors that are pending, or the word that a refused key names.
-#[derive(Drop)]
+#[derive(Clone, Copy)]
 pub struct Reply {
     pub status: u8,
     pub error: u8,

@@ -1,4 +1,6 @@
 // What a slot's registers ask for: the request that they encode (request.rt), and the checks of data and of one sector (access.rt).
+#![tactic(auto)]
+
 mod access;
 mod request;
 

@@ -12,7 +12,7 @@ use wire::{u8_at, u16_at};
 
 // A request that "first stops a running fill (code 0008h) and drops an owed transfer". Data is E1h, with its sector count; Sector is 24h or 34h,
 // with its sector count and its LBA. Other is "All else, and E0h with another count".
-#[derive(Drop)]
+#[derive(Clone, Copy)]
 pub enum Operation {
     Key,
     Data(Direction, u16),
@@ -21,7 +21,7 @@ pub enum Operation {
 }
 
 // "Every request but a well-formed status read" is an operation.
-#[derive(Drop)]
+#[derive(Clone, Copy)]
 pub enum Request {
     Status,
     Operation(Operation),

@@ -1,4 +1,6 @@
 // Operations on runs of bytes: copy, set, compare and repeat.
+#![tactic(auto)]
+
 mod run;
 
 pub use run::{

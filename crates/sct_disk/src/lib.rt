@@ -1,5 +1,7 @@
 // The twelve entries that the firmware calls: the steps of a port (ports.rt), work (works.rt), those of the owner (owner.rt, repairs.rt), and what is
 // done with a saved image (images.rt). The mailbox is a parameter of sct_take and sct_give only.
+#![tactic(auto)]
+
 mod images;
 mod owner;
 mod ports;

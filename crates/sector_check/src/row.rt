@@ -16,7 +16,7 @@ const ROWS: usize = SECTOR / ROW;
 const ROWS_U64: u64 = ROWS as u64;
 
 // The exclusive or of a row's words, and of those whose number in the row has the bit for one, two or four.
-#[derive(Drop)]
+#[derive(Clone, Copy)]
 pub struct Row {
     pub all: u64,
     pub ones: u64,
@@ -25,7 +25,7 @@ pub struct Row {
 }
 
 // The same of all rows, and the exclusive or of 4096 plus the position of each row whose parity is 1.
-#[derive(Drop)]
+#[derive(Clone, Copy)]
 pub struct Rows {
     pub all: u64,
     pub ones: u64,

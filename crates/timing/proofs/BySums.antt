@@ -19,7 +19,7 @@ use Rattle.timing.specs.declared.drive.Outcome.TheVariants.{Done, Aborted, Conti
 use Rattle.timing.specs.declared.drive.Drive.{Drive}
 use Rattle.timing.specs.Timer.{set_to, passed, commanded, rearmed, is_disabled, is_expired}
 use Rattle.timing.specs.Command.{kind_of}
-use Rattle.timing.specs.Drive.{at_start, as_chosen, at_end, result, mode_set, ended, traced}
+use Rattle.timing.specs.Drive.{at_start, as_chosen, at_end, traced_as, mode_set, ended, traced}
 use Rattle.timing.specs.Trace.{outcomes}
 use Rattle.timing.proofs.TimerLaws.{started_timer, either_way, expired-late, time-passes, access-passes}
 use Rattle.timing.proofs.KindTable.{accesses, flushes, sets_limit, sets_mode, tests_of, kind-tests}
@@ -143,7 +143,7 @@ late_by (suc n) (p ∷ part) = expired-late (10 * suc n) (total (p ∷ part))
 -- ---- By states and by sums the same.
 
 chooses : (n count : ℕ) (timer : Timer) (mode : Mode) → is_disabled timer ≡ eqb n 0
-    → mode_set count timer mode ≡ result (choice_outcome n count) timer (chosen_by n count mode)
+    → mode_set count timer mode ≡ traced_as (choice_outcome n count) timer (chosen_by n count mode)
 chooses zero count timer mode e = rw e
 chooses (suc n) zero timer mode e = rw (e, not-zero n)
 chooses (suc n) (suc zero) timer mode e = rw (e, not-zero n)

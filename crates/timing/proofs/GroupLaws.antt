@@ -16,7 +16,7 @@ use Rattle.timing.specs.declared.drive.Drive.{Drive}
 use Rattle.timing.specs.declared.drive.Mode.{Mode}
 use Rattle.timing.specs.Timer.{is_disabled}
 use Rattle.timing.specs.Command.{kind_of}
-use Rattle.timing.specs.Drive.{as_chosen, result, mode_set, mode_of, at_end, ended, traced}
+use Rattle.timing.specs.Drive.{as_chosen, traced_as, mode_set, mode_of, at_end, ended, traced}
 use Rattle.timing.specs.Trace.{after}
 use Rattle.timing.proofs.TimerLaws.{started_timer, still-runs, has-expired, time-passes, access-passes}
 use Rattle.timing.proofs.BySums.{total}
@@ -36,7 +36,7 @@ AllInGroup (c ∷ cs) = InGroup (kind_of c) × AllInGroup cs
 mode-apart : (count : ℕ) (timer : Timer) (mode : Mode) → (mode_set count timer mode).drive.timer ≡ timer
 mode-apart count timer mode = go (is_disabled timer || ltb 1 count)
   where
-    go : (b : Bool) → (if b then result Aborted timer mode else result Done timer (mode_of count)).drive.timer ≡ timer
+    go : (b : Bool) → (if b then traced_as Aborted timer mode else traced_as Done timer (mode_of count)).drive.timer ≡ timer
     go true = refl
     go false = refl
 

@@ -17,7 +17,7 @@ use Rattle.timing.specs.declared.drive.Outcome.{Outcome}
 use Rattle.timing.specs.declared.drive.Outcome.TheVariants.{Done, Deferred}
 use Rattle.timing.specs.declared.drive.Drive.{Drive}
 use Rattle.timing.specs.Command.{kind_of}
-use Rattle.timing.specs.Drive.{as_chosen, result, traced}
+use Rattle.timing.specs.Drive.{as_chosen, traced_as, traced}
 use Rattle.timing.proofs.TimerLaws.{in-time-or-late}
 
 -- A row: the timer before a command, the outcome, the timer after it. A setting of the mode has no row: it moves the timer as any
@@ -47,7 +47,7 @@ drive_of timer mode = record { timer = timer; mode = mode }
 
 -- every row is what happens
 pub row-happens : {c : Command} {mode : Mode} {timer : Timer} {outcome : Outcome} {next : Timer}
-    → Row c mode timer outcome next → traced (drive_of timer mode) c ≡ result outcome next mode
+    → Row c mode timer outcome next → traced (drive_of timer mode) c ≡ traced_as outcome next mode
 unfolding traced
 row-happens {c} (disables k z) = rw (k, eq-eqb c.count 0 z)
 row-happens {c} (arms k p) = rw (k, ne_eqb c.count 0 (λ e. omega arith))

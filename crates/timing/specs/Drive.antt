@@ -44,21 +44,21 @@ access_outcome timer mode = if is_expired timer then as_chosen mode else Done
 abbrev pub flush_outcome : Timer → Outcome
 flush_outcome timer = if is_expired timer then Deferred else Done
 
-abbrev pub result : Outcome → Timer → Mode → Traced
-result outcome timer mode = record { outcome = outcome; drive = record { timer = timer; mode = mode } }
+abbrev pub traced_as : Outcome → Timer → Mode → Traced
+traced_as outcome timer mode = record { outcome = outcome; drive = record { timer = timer; mode = mode } }
 
 -- "feature 21h while disabled, or a count above 1 with it, is aborted and changes nothing but the time passed."
 abbrev pub mode_set : ℕ → Timer → Mode → Traced
 mode_set count timer mode =
-    if is_disabled timer || ltb 1 count then result Aborted timer mode else result Done timer (mode_of count)
+    if is_disabled timer || ltb 1 count then traced_as Aborted timer mode else traced_as Done timer (mode_of count)
 
 -- what a command leads to at whose end this is the timer: "A setting's own duration passes first, then it takes hold"; "All else .. is done."
 abbrev pub ended : Kind → ℕ → Timer → Mode → Traced
-ended SetLimit count timer mode = result Done (set_to timer count) mode
+ended SetLimit count timer mode = traced_as Done (set_to timer count) mode
 ended SetMode count timer mode = mode_set count timer mode
-ended Access count timer mode = result (access_outcome timer mode) timer mode
-ended Flush count timer mode = result (flush_outcome timer) (rearmed timer) mode
-ended Other count timer mode = result Done timer mode
+ended Access count timer mode = traced_as (access_outcome timer mode) timer mode
+ended Flush count timer mode = traced_as (flush_outcome timer) (rearmed timer) mode
+ended Other count timer mode = traced_as Done timer mode
 
 -- one record of a trace
 unfoldable pub traced : Drive → Command → Traced

@@ -34,7 +34,7 @@ const COUNT_AT: usize = 2;
 const DURATION_AT: usize = 3;
 
 // "command, feature, count (a byte each) and duration in ms"
-#[derive(Drop)]
+#[derive(Clone, Copy)]
 pub struct Command {
     pub code: u8,
     pub feature: u8,
@@ -43,7 +43,7 @@ pub struct Command {
 }
 
 // What a command is to the timer: the two settings, a timed read or write, a flush, and any other.
-#[derive(Drop)]
+#[derive(Clone, Copy)]
 pub enum Kind {
     SetLimit,
     SetMode,

@@ -1,19 +1,19 @@
 // A drive with time-limited commands: its timer and mode, and what it makes of one command.
 ghost use Rattle.std.specs.Prelude.{◌≡◌};
-ghost use Rattle.timing.specs.Drive.{at_start, mode_of, as_chosen, access_outcome, flush_outcome, at_end, result, mode_set, ended, traced};
+ghost use Rattle.timing.specs.Drive.{at_start, mode_of, as_chosen, access_outcome, flush_outcome, at_end, traced_as, mode_set, ended, traced};
 
 use crate::command::{Command, Kind};
 use crate::timer::Timer;
 
 // What becomes of a read or write whose timer has expired: "Features 21h with 0 chooses abort, 1 choosing continue."
-#[derive(Drop)]
+#[derive(Clone, Copy)]
 pub enum Mode {
     Abort,
     Continue,
 }
 
 // The words of a trace.
-#[derive(Drop)]
+#[derive(Clone, Copy)]
 pub enum Outcome {
     Done,
     Aborted,
@@ -21,14 +21,14 @@ pub enum Outcome {
     Deferred,
 }
 
-#[derive(Drop)]
+#[derive(Clone, Copy)]
 pub struct Drive {
     pub timer: Timer,
     pub mode: Mode,
 }
 
 // What became of a command, and the drive after it.
-#[derive(Drop)]
+#[derive(Clone, Copy)]
 pub struct Traced {
     pub outcome: Outcome,
     pub drive: Drive,
@@ -38,7 +38,7 @@ pub struct Traced {
 const CONTINUE: u8 = 1;
 
 fn result(outcome: Outcome, timer: Timer, mode: Mode) -> Traced
-    ensures* { λ r. ⌜ r ≡ result outcome timer mode ⌝ }
+    ensures { result ≡ traced_as outcome timer mode }
 {
     Traced {
         outcome,
@@ -47,7 +47,7 @@ fn result(outcome: Outcome, timer: Timer, mode: Mode) -> Traced
 }
 
 fn mode_of(count: u8) -> Mode
-    ensures* { λ r. ⌜ r ≡ mode_of count ⌝ }
+    ensures { result ≡ mode_of count }
 {
     if count == 0 {
         Mode::Abort
@@ -58,7 +58,7 @@ fn mode_of(count: u8) -> Mode
 
 // The setting of the mode: "feature 21h while disabled, or a count above 1 with it, is aborted and changes nothing but the time passed."
 fn set_mode(count: u8, timer: Timer, mode: Mode) -> Traced
-    ensures* { λ r. ⌜ r ≡ mode_set count timer mode ⌝ }
+    ensures { result ≡ mode_set count timer mode }
 {
     if timer.is_disabled() | (CONTINUE < count) {
         return result(Outcome::Aborted, timer, mode);
@@ -67,7 +67,7 @@ fn set_mode(count: u8, timer: Timer, mode: Mode) -> Traced
 }
 
 fn as_chosen(mode: Mode) -> Outcome
-    ensures* { λ r. ⌜ r ≡ as_chosen mode ⌝ }
+    ensures { result ≡ as_chosen mode }
 {
     match mode {
         Mode::Abort => Outcome::Aborted,
@@ -77,7 +77,7 @@ fn as_chosen(mode: Mode) -> Outcome
 
 // The outcome of a read or write at whose end this is the timer.
 fn access_outcome(timer: Timer, mode: Mode) -> Outcome
-    ensures* { λ r. ⌜ r ≡ access_outcome timer mode ⌝ }
+    ensures { result ≡ access_outcome timer mode }
 {
     if timer.is_expired() {
         as_chosen(mode)
@@ -88,7 +88,7 @@ fn access_outcome(timer: Timer, mode: Mode) -> Outcome
 
 // The outcome of a flush at whose end this is the timer.
 fn flush_outcome(timer: Timer) -> Outcome
-    ensures* { λ r. ⌜ r ≡ flush_outcome timer ⌝ }
+    ensures { result ≡ flush_outcome timer }
 {
     if timer.is_expired() {
         Outcome::Deferred
@@ -99,7 +99,7 @@ fn flush_outcome(timer: Timer) -> Outcome
 
 // The timer at the end of a command.
 fn at_end(kind: Kind, timer: Timer, duration: u32) -> Timer
-    ensures* { λ r. ⌜ r ≡ at_end kind timer duration ⌝ }
+    ensures { result ≡ at_end kind timer duration }
 {
     match kind {
         Kind::SetLimit => timer.pass(duration),
@@ -112,7 +112,7 @@ fn at_end(kind: Kind, timer: Timer, duration: u32) -> Timer
 
 // What a command leads to at whose end this is the timer.
 fn ended(kind: Kind, count: u8, timer: Timer, mode: Mode) -> Traced
-    ensures* { λ r. ⌜ r ≡ ended kind count timer mode ⌝ }
+    ensures { result ≡ ended kind count timer mode }
 {
     match kind {
         Kind::SetLimit => result(Outcome::Done, timer.set(count), mode),
@@ -126,7 +126,7 @@ fn ended(kind: Kind, count: u8, timer: Timer, mode: Mode) -> Traced
 impl Drive {
     // "`trace` starts disabled with abort chosen."
     pub fn start() -> Drive
-        ensures* { λ r. ⌜ r ≡ at_start ⌝ }
+        ensures { result ≡ at_start }
     {
         Drive {
             timer: Timer::Disabled,
@@ -136,7 +136,7 @@ impl Drive {
 
     // One record of a trace.
     pub fn trace(self, command: Command) -> Traced
-        ensures* { λ r. ⌜ r ≡ traced self command ⌝ }
+        ensures { result ≡ traced self command }
     {
         let kind = command.kind();
         let timer = self.timer;

@@ -3,7 +3,7 @@ ghost use Rattle.std.specs.Prelude.{◌≡◌};
 ghost use Rattle.timing.specs.Timer.{set_to, started, commanded, rearmed, passed, is_disabled, is_expired};
 
 // "The timer is disabled, armed, running or expired." Limit and time run are in milliseconds.
-#[derive(Drop)]
+#[derive(Clone, Copy)]
 pub enum Timer {
     Disabled,
     Armed { limit: u32 },

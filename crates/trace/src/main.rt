@@ -1,4 +1,6 @@
 // The trace program: reads records of time-limited commands from standard input in blocks, and prints a line for each.
+#![tactic(auto)]
+
 ghost use Rattle.std.specs.Prelude.{◌≤◌, length};
 ghost use Rattle.trace_lines.specs.Lines.{room};
 
@@ -14,7 +16,7 @@ const INPUT: usize = RECORDS * RECORD;
 const TEXT: usize = RECORDS * LINE + CUT;
 
 // The drive after a block, and whether there may be more.
-#[derive(Drop)]
+#[derive(Clone, Copy)]
 struct Block {
     drive: Drive,
     more: bool,

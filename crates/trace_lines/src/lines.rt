@@ -13,7 +13,7 @@ pub const LINE: usize = 10;
 pub const CUT: usize = 4;
 
 // The drive after some records, and the length of their lines.
-#[derive(Drop)]
+#[derive(Clone, Copy)]
 pub struct Progress {
     pub drive: Drive,
     pub end: usize,

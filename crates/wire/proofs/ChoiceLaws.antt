@@ -20,12 +20,12 @@ and_right false b h = cc
 pub and_both : (a b : Bool) → a ≡ true → b ≡ true → (a && b) ≡ true
 and_both a b p q = rw (p, q)
 
--- what the callee ensures about a test, after `if !test() { return .. }` was not taken, and after it was taken
-pub passed : {t b : Bool} → t ≡ b → not t ≡ false → b ≡ true
-passed {t} e h = sym e ∙ not-false t h
+-- what the callee ensures about a test, once the test is known to have passed, or failed
+pub passed : {t b : Bool} → t ≡ b → t ≡ true → b ≡ true
+passed e h = sym e ∙ h
 
-pub failed : {t b : Bool} → t ≡ b → not t ≡ true → b ≡ false
-failed {t} e h = sym e ∙ not-true t h
+pub failed : {t b : Bool} → t ≡ b → t ≡ false → b ≡ false
+failed e h = sym e ∙ h
 
 -- && groups to the left: a && b && c is (a && b) && c
 pub and-three : (a b c : Bool) → (a && b && c) ≡ true → (a ≡ true) × (b ≡ true) × (c ≡ true)

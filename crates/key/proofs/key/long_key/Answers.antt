@@ -1,0 +1,14 @@
+use borrow.Author.Tests.{lt-ltb, le-ltb}
+use Rattle.wire.proofs.ChoiceLaws.{passed, failed}
+use borrow.Author.Rules.{rules}
+use Rattle.key.proofs.key.long_key.Goals as goal
+
+pub returns-then-not-between : goal.returns-then-not-between
+returns-then-not-between c = λ k f l. rw (f, failed c.between.ensures c.if-not-between.true)
+
+pub returns-then-lba-visible : goal.returns-then-lba-visible
+returns-then-lba-visible c = λ k f l. rw (f, passed c.between.ensures c.if-not-between.false, l, le-ltb _ _ c.if-lba-visible.true)
+
+pub returns : goal.returns
+returns c =
+    λ k f l. rw (f, passed c.between.ensures c.if-not-between.false, l, lt-ltb _ _ c.if-lba-visible.false, c.direction_of-dir.ensures)

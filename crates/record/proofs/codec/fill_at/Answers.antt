@@ -1,0 +1,10 @@
+use mathlib.Core.Path.{◌∙◌}
+use Rattle.store.specs.Record.{fill_of, decode}
+use borrow.Author.Rules.{rules}
+use Rattle.record.proofs.codec.fill_at.Goals as goal
+
+pub returns : goal.returns
+unfolding decode
+returns c =
+    c.fill_of.ensures
+    ∙ (λ i. fill_of (c.u8_at.ensures i) (c.u64_at.ensures i) (c.u64_at-2.ensures i) (c.u64_at-3.ensures i))

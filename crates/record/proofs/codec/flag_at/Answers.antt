@@ -1,0 +1,7 @@
+use mathlib.Core.Path.{ap}
+use Rattle.store.specs.Record.{flag_of}
+use borrow.Author.Rules.{rules}
+use Rattle.record.proofs.codec.flag_at.Goals as goal
+
+pub returns : goal.returns
+returns c = ap flag_of c.u8_at.ensures

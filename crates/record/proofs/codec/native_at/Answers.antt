@@ -1,0 +1,7 @@
+use Rattle.store.specs.Record.{decode}
+use borrow.Author.Rules.{rules}
+use Rattle.record.proofs.codec.native_at.Goals as goal
+
+pub returns : goal.returns
+unfolding decode
+returns c = c.u64_at.ensures

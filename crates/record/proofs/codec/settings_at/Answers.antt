@@ -1,0 +1,15 @@
+use Rattle.store.specs.Record.{decode}
+use borrow.Author.Rules.{rules}
+use Rattle.record.proofs.codec.settings_at.Goals as goal
+
+pub returns : goal.returns
+unfolding decode
+returns c =
+    λ i.
+    record {
+      read_timer = c.u16_at-4.ensures i;
+      write_timer = c.u16_at-5.ensures i;
+      write_cache = record { state = c.u16_at.ensures i; persistent = c.flag_at.ensures i };
+      reordering = record { state = c.u16_at-2.ensures i; persistent = c.flag_at-2.ensures i };
+      log_interval = record { state = c.u16_at-3.ensures i; persistent = c.flag_at-3.ensures i };
+    }

@@ -1,0 +1,16 @@
+use Rattle.store.specs.Record.{decode}
+use Rattle.record_check.proofs.SoundnessLaws.{device-tests}
+use borrow.Author.Rules.{rules}
+use Rattle.record_check.proofs.clauses.device_sound.Goals as goal
+
+pub returns : goal.returns
+unfolding decode
+returns c =
+    device-tests c.args.device.now c.settings_at-settings.result
+    c.native_at-native.ensures
+    c.visible_at-visible.ensures
+    c.command_sound.ensures
+    c.settings_sound.ensures
+    c.settings_at-settings.ensures
+    c.u16_at.ensures
+    c.u16_at-2.ensures

@@ -1,0 +1,5 @@
+use borrow.Author.Rules.{rules}
+use Rattle.record_check.proofs.places.flag_named.Goals as goal
+
+pub returns : goal.returns
+returns c = rw c.u8_at.ensures

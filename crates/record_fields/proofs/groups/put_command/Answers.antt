@@ -1,0 +1,16 @@
+use native.Mathlib.Omega.{arith}
+use borrow.Author.Rules.{rules}
+use Rattle.record_fields.proofs.groups.put_command.Goals as goal
+
+pub returns : goal.returns
+returns c =
+    record {
+      device_after = rw (
+        c.put_u16-3.ensures,
+        c.put_u16-2.ensures,
+        c.put_u16.ensures,
+        c.put_u8.ensures,
+        c.fill_kind.ensures,
+      );
+      fits = omega (arith, c.well_formed, c.fill_kind.ensures, c.fill_kind.type_inv);
+    }

@@ -1,0 +1,29 @@
+use native.Mathlib.Omega.{arith}
+use borrow.Author.Rules.{rules}
+use Rattle.record_fields.proofs.groups.put_slot.Goals as goal
+
+pub returns : goal.returns
+returns c =
+    record {
+      device_after = rw (
+        c.put_u64-2.ensures,
+        c.transfer_end.ensures,
+        c.put_u64.ensures,
+        c.transfer_first.ensures,
+        c.put_u8-2.ensures,
+        c.transfer_kind.ensures,
+        c.put_u8.ensures,
+        c.stage_number.ensures,
+      );
+      fits = omega (
+        arith,
+        c.stage_number.ensures,
+        c.stage_number.type_inv,
+        c.transfer_kind.ensures,
+        c.transfer_kind.type_inv,
+        c.transfer_first.ensures,
+        c.transfer_first.type_inv,
+        c.transfer_end.ensures,
+        c.transfer_end.type_inv,
+      );
+    }

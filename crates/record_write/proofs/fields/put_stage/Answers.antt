@@ -1,0 +1,5 @@
+use borrow.Author.Rules.{rules}
+use Rattle.record_write.proofs.fields.put_stage.Goals as goal
+
+pub returns : goal.returns
+returns c = rw (c.put_u8.ensures, c.stage_number.ensures)

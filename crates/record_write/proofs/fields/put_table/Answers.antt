@@ -1,0 +1,6 @@
+use borrow.Author.Rules.{rules}
+use Rattle.record_write.proofs.fields.put_table.Goals as goal
+
+pub returns : goal.returns
+returns c =
+    rw (c.put_u16-2.ensures, c.put_u16.ensures)

@@ -1,0 +1,14 @@
+use Rattle.record_write.proofs.BlankLaws.{blank-stored}
+use borrow.Author.Rules.{rules}
+use Rattle.record_write.proofs.framing.frame.Goals as goal
+
+pub returns : goal.returns
+returns c =
+    rw (
+      c.empty_history.ensures,
+      c.put_u16.ensures,
+      c.put_u32-2.ensures,
+      c.put_u32.ensures,
+      c.zero_part.ensures,
+    )
+    (blank-stored c.args.device.now c.requires)

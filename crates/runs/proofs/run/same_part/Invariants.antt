@@ -1,0 +1,15 @@
+-- What holds at each turn.
+use native.Mathlib.Numerals.{add-one}
+use mathlib.Core.Path.{◌≡◌, refl}
+use Prim.Native.Nat.{◌-◌, ◌≤◌, zero-le}
+use native.Mathlib.Omega.{arith}
+use Rattle.wire.specs.Parts.{part}
+use Rattle.wire.specs.Bytes.{same}
+use Rattle.runs.proofs.RunLaws.{same_more}
+use Rattle.runs.proofs.run.same_part.Given as goal
+
+abbrev pub invariant-loop-j : goal.invariant-loop-j
+invariant-loop-j l = (l.j ≤ l.n) × (l.all ≡ same (part l.a l.at l.j) (part l.b l.from l.j))
+
+abbrev pub decreases-loop-j : goal.decreases-loop-j
+decreases-loop-j l = l.n - l.j

@@ -1,0 +1,6 @@
+use mathlib.Core.Path.{refl}
+use borrow.Author.Rules.{rules}
+use Rattle.timing.proofs.timer.Timer.command.Goals as goal
+
+pub returns : goal.returns
+returns c = rw (c.pass.ensures, c.start.ensures) refl
