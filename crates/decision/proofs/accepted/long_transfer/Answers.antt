@@ -1,0 +1,8 @@
+use borrow.Author.Rules.{rules}
+use Rattle.decision.proofs.accepted.long_transfer.Goals as goal
+
+pub returns-in-Read : goal.returns-in-Read
+returns-in-Read c = rw c.in-Read.is
+
+pub returns-in-Write : goal.returns-in-Write
+returns-in-Write c = rw c.in-Write.is

@@ -1,0 +1,7 @@
+use native.Mathlib.Omega.{arith}
+use borrow.Author.Rules.{rules}
+use Rattle.effect.proofs.writes.store.Goals as goal
+
+pub returns : goal.returns
+returns c =
+    λ i. record { sectors = c.copy_part.ensures i; check_area = c.put_u16.ensures i }

@@ -1,0 +1,7 @@
+use Rattle.fill.proofs.SectorLaws.{pattern-stored}
+use borrow.Author.Rules.{rules}
+use Rattle.fill.proofs.sector.put_pattern.Goals as goal
+
+pub returns : goal.returns
+returns c =
+    rw c.repeat_within.ensures (pattern-stored c.args.area.now c.args.p)

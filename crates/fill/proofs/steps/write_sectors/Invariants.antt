@@ -1,0 +1,19 @@
+-- What holds at each turn.
+use native.Mathlib.Numerals.{add-one}
+use mathlib.Core.Path.{◌≡◌, refl}
+use Prim.Native.Nat.{◌+◌, ◌*◌, ◌-◌, ◌≤◌, zero-le}
+use native.Mathlib.Omega.{arith}
+use lib.ListN.{length}
+use lib.Seq.{sets, length-sets}
+use Rattle.wire.specs.Parts.{repeated}
+use Rattle.wire.proofs.PartsLaws.{length_part, repeat-more}
+use Rattle.model.specs.Sizes.{sector_size}
+use Rattle.store.specs.Store.{fill_sector_of}
+use Rattle.store.specs.Areas.{fill_place}
+use Rattle.fill.proofs.steps.write_sectors.Given as goal
+
+abbrev pub invariant-loop-j : goal.invariant-loop-j
+invariant-loop-j l = (l.j ≤ l.k) × (length l.disk ≡ length l.initial.disk) × (l.at ≡ sector_size * l.next + sector_size * l.j) × (l.disk ≡ sets l.initial.disk (sector_size * l.next) (repeated l.j (fill_sector_of l.area)))
+
+abbrev pub decreases-loop-j : goal.decreases-loop-j
+decreases-loop-j l = l.k - l.j

@@ -1,0 +1,6 @@
+use Rattle.image.proofs.ImageAnswers.{room-left}
+use borrow.Author.Rules.{rules}
+use Rattle.image.proofs.refusal.has_room.Goals as goal
+
+pub returns : goal.returns
+returns c = let a = c.args in room-left a.image.now a.used c.requires

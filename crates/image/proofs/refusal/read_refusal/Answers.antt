@@ -1,0 +1,25 @@
+use mathlib.Core.Path.{sym, ◌∙◌}
+use mathlib.Core.Bool.{true, false}
+use borrow.Author.Tests.{not-true, not-false}
+use Rattle.image.proofs.ImageAnswers.{read-long, read-bad, read-disk}
+use borrow.Author.Rules.{rules}
+use Rattle.image.proofs.refusal.read_refusal.Goals as goal
+
+pub returns-then-used-image : goal.returns-then-used-image
+returns-then-used-image c = let a = c.args in read-long a.native a.image.now a.used c.if-used-image.true
+
+pub returns-then-not-readable : goal.returns-then-not-readable
+returns-then-not-readable c = let a = c.args in read-bad a.native a.image.now a.used c.if-used-image.false (sym c.readable.ensures ∙ c.if-not-readable.true)
+
+pub same_disk-requires : goal.same_disk-requires
+same_disk-requires c = (c.if-used-image.false, sym c.readable.ensures ∙ c.if-not-readable.false)
+
+pub returns-then-not-same_disk : goal.returns-then-not-same_disk
+returns-then-not-same_disk c =
+    let a = c.args in
+    read-disk a.native a.image.now a.used c.if-used-image.false (sym c.readable.ensures ∙ c.if-not-readable.false) false (sym c.same_disk.ensures ∙ c.if-not-same_disk.true)
+
+pub returns : goal.returns
+returns c =
+    let a = c.args in
+    read-disk a.native a.image.now a.used c.if-used-image.false (sym c.readable.ensures ∙ c.if-not-readable.false) true (sym c.same_disk.ensures ∙ c.if-not-same_disk.false)

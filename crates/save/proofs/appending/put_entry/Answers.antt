@@ -1,0 +1,20 @@
+use native.Mathlib.Omega.{arith}
+use Rattle.store.proofs.SoundLaws.{sound-parts}
+use Rattle.save.proofs.AppendLaws.{entry-stored}
+use borrow.Author.Rules.{rules}
+use Rattle.save.proofs.appending.put_entry.Goals as goal
+
+pub chain_form-entry_form-requires : goal.chain_form-entry_form-requires
+chain_form-entry_form-requires c = let p = c.requires.room in (omega arith, omega (arith, p.1))
+
+pub put_head-requires : goal.put_head-requires
+put_head-requires c = (omega arith, (sound-parts _ c.requires.device_value).size)
+
+pub copy_part-requires : goal.copy_part-requires
+copy_part-requires c = (omega arith, omega (arith, (sound-parts _ c.requires.device_value).size))
+
+pub returns : goal.returns
+returns c =
+    let a = c.args in
+    rw (c.put_trailer.ensures, c.copy_part.ensures, c.put_head.ensures, c.chain_form-entry_form.ensures)
+    (entry-stored a.device.now a.image.now a.used _ (λ i. omega (arith, c.shared_slice_known-1.given i)) c.requires.device_value (omega arith))

@@ -1,0 +1,9 @@
+use Rattle.save.proofs.AppendLaws.{trailer-stored}
+use borrow.Author.Rules.{rules}
+use Rattle.save.proofs.appending.put_trailer.Goals as goal
+
+pub returns : goal.returns
+returns c =
+    let a = c.args in
+    rw (c.copy_part.ensures, c.put_u32-3.ensures, c.put_u32-2.ensures, c.previous_place.ensures, c.put_u32.ensures, c.zero_part.ensures)
+    (trailer-stored a.image.now a.at a.number)

@@ -1,0 +1,6 @@
+use Rattle.temperature.proofs.SampleLaws.{sampled-says}
+use borrow.Author.Rules.{rules}
+use Rattle.temperature.proofs.logging.sampled_device.Goals as goal
+
+pub returns : goal.returns
+returns c = sampled-says c.args.reading c.args.d _ c.sampled_thermal-u.ensures

@@ -1,0 +1,15 @@
+-- What holds at each turn.
+use mathlib.Core.Path.{◌≡◌, refl}
+use Prim.Native.Nat.{◌*◌, ◌-◌, ◌/◌, ◌≤◌, zero-le}
+use native.Mathlib.Omega.{arith}
+use lib.ListN.{length}
+use borrow.Author.Rules.{rules}
+use Rattle.trace_lines.proofs.LinesLaws.{PrintedFirst, none-printed, one-more-printed, length-printed}
+use Rattle.trace_lines.proofs.lines.put_records.Given as goal
+
+abbrev pub invariant-loop-k : goal.invariant-loop-k
+invariant-loop-k l =
+    (l.k ≤ l.whole) × (l.end ≤ 10 * l.k) × (length l.text ≡ length l.initial.text) × PrintedFirst l.initial.state l.input l.initial.text l.k l.state l.end l.text
+
+abbrev pub decreases-loop-k : goal.decreases-loop-k
+decreases-loop-k l = l.whole - l.k
