@@ -1,0 +1,51 @@
+use mathlib.Core.Path.{refl, ap}
+use mathlib.Core.List.{List}
+use Prim.Native.Nat.{ℕ}
+use native.Mathlib.Omega.{arith}
+use lib.Seq.{sets}
+use Rattle.wire.proofs.PartsLaws.{part-whole}
+use Rattle.wire.proofs.ChoiceLaws.{attempt-refused, attempt-done}
+use Rattle.model.specs.Sizes.{mailbox_size}
+use Rattle.store.specs.Areas.{slot_place}
+use Rattle.store.specs.Record.{empty, held}
+use Rattle.store.specs.Entries.{take_entry, take_bytes}
+use Rattle.store.proofs.StageLaws.{sound-stage}
+use Rattle.refusals.proofs.CheckLaws.{MailboxPassed, mailbox-passed}
+use borrow.Author.Rules.{rules}
+use Rattle.sct_disk.proofs.ports.sct_take.Goals as goal
+use Rattle.sct_disk.proofs.ports.sct_take.Goals.{Else-refusal-ne-DONE}
+
+-- what holds if no check failed
+passed : (c : Else-refusal-ne-DONE) → let a = c.args in MailboxPassed a.device.now a.port a.mailbox.now a.area.now
+passed c =
+    let a = c.args in
+    mailbox-passed empty a.device.now a.port a.mailbox.now a.area.now (c.mailbox_refusal-refusal.ensures a.mailbox.now a.area.now refl refl) c.if-refusal-ne-DONE.false
+
+pub returns-then-refusal-ne-DONE : goal.returns-then-refusal-ne-DONE
+unfolding take_bytes
+returns-then-refusal-ne-DONE c =
+    let a = c.args in
+    rw (attempt-refused (take_entry a.device.now a.port a.mailbox.now a.area.now) c.mailbox_refusal-refusal.result (c.mailbox_refusal-refusal.ensures a.mailbox.now a.area.now refl refl) c.if-refusal-ne-DONE.true) record {
+      value = refl;
+      device = refl;
+      area = refl;
+    }
+
+pub copy_part-requires : goal.copy_part-requires
+copy_part-requires c = omega (arith, passed (goal.at.copy_part-requires c).Else-refusal-ne-DONE)
+
+pub put_stage-requires : goal.put_stage-requires
+put_stage-requires c =
+    let ok = passed (goal.at.put_stage-requires c).Else-refusal-ne-DONE in (ok.record_sized, ok.port)
+
+pub returns : goal.returns
+unfolding take_bytes
+returns c =
+    let a = c.args in
+    let ok = passed (goal.at.returns c).Else-refusal-ne-DONE in
+    rw (attempt-done (take_entry a.device.now a.port a.mailbox.now a.area.now) c.mailbox_refusal-refusal.result (c.mailbox_refusal-refusal.ensures a.mailbox.now a.area.now refl refl) c.if-refusal-ne-DONE.false)
+    record {
+      value = refl;
+      device = rw c.put_stage.ensures (sound-stage a.device.now a.port held ok.is_sound ok.port);
+      area = rw c.copy_part.ensures (ap (λ (l : List ℕ). sets a.area.now (slot_place a.port) l) (part-whole a.mailbox.now mailbox_size ok.mailbox_sized));
+    }

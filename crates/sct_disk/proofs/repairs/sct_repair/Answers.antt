@@ -1,0 +1,77 @@
+use mathlib.Core.Path.{refl, ap, ◌∙◌}
+use Prim.Native.Nat.{◌<◌}
+use native.Mathlib.Omega.{arith}
+use lib.ListN.{length-take}
+use Rattle.wire.proofs.ChoiceLaws.{attempt-refused, attempt-done}
+use Rattle.model.specs.Disk.{disk_of}
+use Rattle.store.specs.Record.{decode}
+use Rattle.store.specs.Entries.{repair_entry, repair_bytes}
+use Rattle.refusals.proofs.CheckLaws.{DiskPassed, repair-passed}
+use Rattle.sct_disk.proofs.VisibleLaws.{VisiblePart, visible-part, repair-report, repair-record, repair-sectors}
+use Rattle.sct_disk.specs.Result.{result_of}
+use borrow.Author.Rules.{rules}
+use Rattle.sct_disk.proofs.repairs.sct_repair.Goals as goal
+use Rattle.sct_disk.proofs.repairs.sct_repair.Goals.{Else-refusal-ne-DONE, After-visible_sectors-visible}
+
+passed : (c : Else-refusal-ne-DONE) → let a = c.args in DiskPassed a.device.now (disk_of a.disk.now a.check_area.now) × (a.lba < (decode a.device.now).device.visible)
+passed c =
+    let a = c.args in
+    let disk = disk_of a.disk.now a.check_area.now in
+    repair-passed a.device.now disk a.lba (c.repair_refusal-refusal.ensures disk refl refl) c.if-refusal-ne-DONE.false
+
+-- the visible part of the disk
+visible-of : (c : After-visible_sectors-visible) → let a = c.args in VisiblePart a.device.now (disk_of a.disk.now a.check_area.now) c.visible_sectors-visible.result
+visible-of c =
+    let a = c.args in
+    let disk = disk_of a.disk.now a.check_area.now in
+    let all = repair-passed a.device.now disk a.lba (c.repair_refusal-refusal.ensures disk refl refl) c.if-refusal-ne-DONE.false in
+    visible-part a.device.now disk c.visible_sectors-visible.result (λ i. omega (arith, c.slice_known-1.given i)) all.0 c.visible_sectors-visible.ensures
+
+pub returns-then-refusal-ne-DONE : goal.returns-then-refusal-ne-DONE
+unfolding repair_bytes
+returns-then-refusal-ne-DONE c =
+    let a = c.args in
+    let disk = disk_of a.disk.now a.check_area.now in
+    rw (attempt-refused (repair_entry a.device.now disk a.lba) c.repair_refusal-refusal.result (c.repair_refusal-refusal.ensures disk refl refl) c.if-refusal-ne-DONE.true) record {
+      value = c.result_of.ensures;
+      device = refl;
+      disk = refl;
+    }
+
+pub visible_sectors-visible-requires : goal.visible_sectors-visible-requires
+visible_sectors-visible-requires c = (passed (goal.at.visible_sectors-visible-requires c).Else-refusal-ne-DONE).0.is_sound
+
+pub overflow_mul-visible : goal.overflow_mul-visible
+overflow_mul-visible c = let h = (visible-of (goal.at.overflow_mul-visible c).After-visible_sectors-visible).limit in omega (arith, h)
+
+pub slice_bounds-repair-end : goal.slice_bounds-repair-end
+slice_bounds-repair-end c = let h = (visible-of (goal.at.slice_bounds-repair-end c).After-visible_sectors-visible).within.0 in omega (arith, h)
+
+pub slice_bounds-repair-end-2 : goal.slice_bounds-repair-end-2
+slice_bounds-repair-end-2 c = let h = (visible-of (goal.at.slice_bounds-repair-end-2 c).After-visible_sectors-visible).within.0 in rw length-take (omega (arith, h))
+
+pub overflow_mul-visible-2 : goal.overflow_mul-visible-2
+overflow_mul-visible-2 c = let h = (visible-of (goal.at.overflow_mul-visible-2 c).After-visible_sectors-visible).limit in omega (arith, h)
+
+pub slice_bounds-repair-end-3 : goal.slice_bounds-repair-end-3
+slice_bounds-repair-end-3 c = let h = (visible-of (goal.at.slice_bounds-repair-end-3 c).After-visible_sectors-visible).within.1 in rw length-take (omega (arith, h))
+
+pub repair-report-requires : goal.repair-report-requires
+repair-report-requires c =
+    let s = visible-of (goal.at.repair-report-requires c).After-visible_sectors-visible in
+    (s.passed.is_sound, s.size, (passed (goal.at.repair-report-requires c).Else-refusal-ne-DONE).1)
+
+pub returns : goal.returns
+unfolding repair_bytes
+returns c =
+    let a = c.args in
+    let disk = disk_of a.disk.now a.check_area.now in
+    let v = c.visible_sectors-visible.result in
+    let s = visible-of (goal.at.returns c).After-visible_sectors-visible in
+    let low = (passed (goal.at.returns c).Else-refusal-ne-DONE).1 in
+    let after = c.repair-report.ensures in
+    rw (attempt-done (repair_entry a.device.now disk a.lba) c.repair_refusal-refusal.result (c.repair_refusal-refusal.ensures disk refl refl) c.if-refusal-ne-DONE.false) record {
+      value = c.result_of-2.ensures ∙ ap (result_of 0) (repair-report a.device.now disk v a.lba s low _ after.report);
+      device = repair-record a.device.now disk v a.lba s low _ after.device;
+      disk = repair-sectors a.device.now disk v a.lba s low _ after.disk;
+    }
