@@ -4,8 +4,7 @@ ghost use Rattle.model.specs.Disk.{disk_of};
 ghost use Rattle.store.specs.Entries.{save_bytes, power_on_bytes, convert_bytes};
 
 // "A save adds one entry behind the used length; other bytes stay."
-#[unsafe(no_mangle)]
-pub extern "C" fn sct_save(device: &[u8], image: &mut [u8], used: u64) -> u32
+pub fn sct_save(device: &[u8], image: &mut [u8], used: u64) -> u32
     ensures value { result ≡ (save_bytes device.now image.old used).answer }
     ensures image { image.new ≡ (save_bytes device.now image.old used).image }
 {
@@ -13,8 +12,7 @@ pub extern "C" fn sct_save(device: &[u8], image: &mut [u8], used: u64) -> u32
 }
 
 // "Power-on from length 0 ..; otherwise the newest entry"; "private area all zeros"
-#[unsafe(no_mangle)]
-pub extern "C" fn sct_power_on(
+pub fn sct_power_on(
     device: &mut [u8],
     area: &mut [u8],
     disk: &[u8],
@@ -30,8 +28,7 @@ pub extern "C" fn sct_power_on(
 }
 
 // "Convert a whole image from form 1 to form 2 and back" (W-204)
-#[unsafe(no_mangle)]
-pub extern "C" fn sct_convert(image: &mut [u8], used: u64, form: u32) -> u32
+pub fn sct_convert(image: &mut [u8], used: u64, form: u32) -> u32
     ensures value { result ≡ (convert_bytes image.old used form).answer }
     ensures image { image.new ≡ (convert_bytes image.old used form).image }
 {

@@ -2,32 +2,28 @@
 ghost use Rattle.std.specs.Prelude.{◌≡◌};
 ghost use Rattle.store.specs.Entries.{lock_bytes, unlock_bytes, set_visible_bytes, sample_bytes};
 
-#[unsafe(no_mangle)]
-pub extern "C" fn sct_lock(device: &mut [u8]) -> u32
+pub fn sct_lock(device: &mut [u8]) -> u32
     ensures value { result ≡ (lock_bytes device.old).answer }
     ensures device { device.new ≡ (lock_bytes device.old).record_area }
 {
     owner_steps::lock(device)
 }
 
-#[unsafe(no_mangle)]
-pub extern "C" fn sct_unlock(device: &mut [u8]) -> u32
+pub fn sct_unlock(device: &mut [u8]) -> u32
     ensures value { result ≡ (unlock_bytes device.old).answer }
     ensures device { device.new ≡ (unlock_bytes device.old).record_area }
 {
     owner_steps::unlock(device)
 }
 
-#[unsafe(no_mangle)]
-pub extern "C" fn sct_set_visible(device: &mut [u8], v: u64) -> u32
+pub fn sct_set_visible(device: &mut [u8], v: u64) -> u32
     ensures value { result ≡ (set_visible_bytes device.old v).answer }
     ensures device { device.new ≡ (set_visible_bytes device.old v).record_area }
 {
     owner_steps::set_visible(device, v)
 }
 
-#[unsafe(no_mangle)]
-pub extern "C" fn sct_sample(device: &mut [u8], reading: u8) -> u32
+pub fn sct_sample(device: &mut [u8], reading: u8) -> u32
     ensures value { result ≡ (sample_bytes device.old reading).answer }
     ensures device { device.new ≡ (sample_bytes device.old reading).record_area }
 {

@@ -8,8 +8,7 @@ use record::Stage;
 use refusals::{mailbox_refusal, serve_refusal, visible_sectors};
 
 // "Take (port): copies the mailbox into the port's slot. Slot goes from empty to held."
-#[unsafe(no_mangle)]
-pub extern "C" fn sct_take(device: &mut [u8], port: u32, mailbox: &[u8], area: &mut [u8]) -> u32
+pub fn sct_take(device: &mut [u8], port: u32, mailbox: &[u8], area: &mut [u8]) -> u32
     ensures value { result ≡ (take_bytes device.old port mailbox.now area.old).answer }
     ensures device { device.new ≡ (take_bytes device.old port mailbox.now area.old).record_area }
     ensures area { area.new ≡ (take_bytes device.old port mailbox.now area.old).private_area }
@@ -25,8 +24,7 @@ pub extern "C" fn sct_take(device: &mut [u8], port: u32, mailbox: &[u8], area: &
 }
 
 // "Serve (port): answers the held request from the slot alone and leaves the reply in the slot. Held to answered."
-#[unsafe(no_mangle)]
-pub extern "C" fn sct_serve(
+pub fn sct_serve(
     device: &mut [u8],
     port: u32,
     area: &mut [u8],
@@ -55,8 +53,7 @@ pub extern "C" fn sct_serve(
 }
 
 // "Give (port): writes all 528 reply bytes to the mailbox. Answered to empty; the slot's bytes stay.": 1,040 since W-202.
-#[unsafe(no_mangle)]
-pub extern "C" fn sct_give(device: &mut [u8], port: u32, mailbox: &mut [u8], area: &[u8]) -> u32
+pub fn sct_give(device: &mut [u8], port: u32, mailbox: &mut [u8], area: &[u8]) -> u32
     ensures value { result ≡ (give_bytes device.old port mailbox.old area.now).answer }
     ensures device { device.new ≡ (give_bytes device.old port mailbox.old area.now).record_area }
     ensures mailbox { mailbox.new ≡ (give_bytes device.old port mailbox.old area.now).mailbox }

@@ -10,8 +10,7 @@ use refusals::{repair_refusal, visible_sectors};
 
 // "An owner step reports 0 (check equal), 1 (bit 12 differs, 13 to 15 don't: it flips the data bit at the differing position) or 2 (else)".
 // "a refused mending reports 0"
-#[unsafe(no_mangle)]
-pub extern "C" fn sct_repair(device: &mut [u8], disk: &mut [u8], check_area: &[u8], lba: u64) -> u64
+pub fn sct_repair(device: &mut [u8], disk: &mut [u8], check_area: &[u8], lba: u64) -> u64
     ensures value { result ≡ result_of (repair_bytes device.old (disk_of disk.old check_area.now) lba).answer (repair_bytes device.old (disk_of disk.old check_area.now) lba).report }
     ensures device { device.new ≡ (repair_bytes device.old (disk_of disk.old check_area.now) lba).record_area }
     ensures disk { disk.new ≡ (repair_bytes device.old (disk_of disk.old check_area.now) lba).sectors }

@@ -10,8 +10,7 @@ use refusals::{visible_sectors, work_refusal};
 
 // "Work (n, any 32-bit number): writes the next sectors of a running fill, as many as n and what is left allow, and reports how many it
 // wrote." A refused work reports 0.
-#[unsafe(no_mangle)]
-pub extern "C" fn sct_work(
+pub fn sct_work(
     device: &mut [u8],
     area: &[u8],
     disk: &mut [u8],
