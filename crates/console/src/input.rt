@@ -1,6 +1,8 @@
-// Input that comes in records of one size: what a read returned.
-ghost use Rattle.std.specs.Prelude.{◌≡◌, ◌≤◌};
+// Input that comes in records of one size: a record read, and what the read returned.
+ghost use Rattle.std.specs.Prelude.{◌≡◌, ◌≤◌, length, IfOk};
 ghost use Rattle.console.specs.Records.{arrival_of};
+
+use std::io::{self, Read};
 
 // What a read of one record returned: all of it, a part of it, or nothing.
 #[derive(Clone, Copy)]
@@ -21,4 +23,19 @@ pub fn arrived(count: usize, size: usize) -> Arrival
         return Arrival::Cut;
     }
     Arrival::Whole
+}
+
+// Reads until the buffer is full or the input ends. Returns how many bytes were read.
+pub fn read_full<R: Read>(reader: &mut R, buf: &mut [u8]) -> io::Result<usize>
+    ensures { IfOk result (λ n. n ≤ length buf.new) }
+{
+    let mut done = 0;
+    while done < buf.len() {
+        let n = reader.read(&mut buf[done..])?;
+        if n == 0 {
+            break;
+        }
+        done += n;
+    }
+    Ok(done)
 }

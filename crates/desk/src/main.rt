@@ -7,7 +7,7 @@ ghost use Rattle.store.specs.Areas.{record_size};
 
 use console::Arrival;
 use layout::{CHECK, MAILBOX, PRIVATE, RECORD, SECTOR};
-use libc::{STDIN_FILENO, STDOUT_FILENO};
+use std::io::{self, Read, Write};
 
 // "records of one byte (work count) and a 528-byte mailbox": W-202 makes them 1,041 bytes; "a fresh 64-sector disk"; a line has at most 64 bytes.
 const INPUT: usize = 1 + MAILBOX;
@@ -20,15 +20,16 @@ const CHECKS: usize = SECTORS * CHECK;
 
 const LINE: usize = 64;
 
-// Serves record `number` and writes its line. Returns whether to continue.
-fn answer(
+// Serves record `number` and writes its line.
+fn answer<W: Write>(
+    out: &mut W,
     device: &mut [u8],
     area: &mut [u8],
     disk: &mut [u8],
     check_area: &mut [u8],
     number: u64,
     input: &mut [u8],
-) -> bool
+) -> io::Result<()>
     requires device_len { length device.old ≡ record_size }
     requires input_len { length input.old ≡ suc mailbox_size }
 {
@@ -44,47 +45,70 @@ fn answer(
         disk,
         check_area,
     );
-    io::write_all(STDOUT_FILENO, &line[..end])
+    out.write_all(&line[..end])
 }
 
 // Reads record `number` and serves it. Returns whether to continue.
-fn next(
+fn next<R: Read, W: Write>(
+    reader: &mut R,
+    out: &mut W,
     device: &mut [u8],
     area: &mut [u8],
     disk: &mut [u8],
     check_area: &mut [u8],
     number: u64,
-) -> bool
+) -> io::Result<bool>
     requires { length device.old ≡ record_size }
 {
     let mut input = [0u8; INPUT];
-    let count = io::read_full(STDIN_FILENO, &mut input);
+    let count = console::read_full(reader, &mut input)?;
     let arrival = console::arrived(count, INPUT);
     match arrival {
-        Arrival::Whole => answer(device, area, disk, check_area, number, &mut input),
-        Arrival::Cut => {
-            io::write_all(STDOUT_FILENO, b"cut\n");
-            false
+        Arrival::Whole => {
+            answer(out, device, area, disk, check_area, number, &mut input)?;
+            Ok(true)
         }
-        Arrival::End => false,
+        Arrival::Cut => {
+            out.write_all(b"cut\n")?;
+            Ok(false)
+        }
+        Arrival::End => Ok(false),
     }
 }
 
-fn all(device: &mut [u8], area: &mut [u8], disk: &mut [u8], check_area: &mut [u8])
+fn all<R: Read, W: Write>(
+    reader: &mut R,
+    out: &mut W,
+    device: &mut [u8],
+    area: &mut [u8],
+    disk: &mut [u8],
+    check_area: &mut [u8],
+) -> io::Result<()>
     requires { length device.old ≡ record_size }
 {
-    let mut done: u64 = 0;
-    while done < u64::MAX && next(device, area, disk, check_area, done + 1) {
-        done += 1;
+    for done in 0..u64::MAX {
+        if !next(reader, out, device, area, disk, check_area, done + 1)? {
+            break;
+        }
     }
+    Ok(())
 }
 
-fn main() {
+fn main(rt: HostRuntime) -> io::Result<()> {
     let mut device = [0u8; RECORD];
     let mut area = [0u8; PRIVATE];
     let mut disk = [0u8; DISK];
     let mut check_area = [0u8; CHECKS];
-    io::write_all(STDOUT_FILENO, b"n status error code written\n");
+    let mut reader = rt.reader();
+    let mut out = io::writer(&rt);
+    out.write_all(b"n status error code written\n")?;
     sct_disk::sct_power_on(&mut device, &mut area, &disk, &check_area, b"", 0);
-    all(&mut device, &mut area, &mut disk, &mut check_area);
+    all(
+        &mut reader,
+        &mut out,
+        &mut device,
+        &mut area,
+        &mut disk,
+        &mut check_area,
+    )
 }

@@ -6,7 +6,7 @@ use native.Mathlib.Omega.{arith}
 use lib.ListN.{length, get_or, set}
 use lib.Dec.{eqb}
 use Rattle.wire.specs.Choice.{if◌then◌else◌}
-use Rattle.model.specs.Device.{Transfer, Device}
+use Rattle.model.specs.Device.{Transfer}
 use Rattle.model.specs.Update.{with_pending}
 use Rattle.record.specs.declared.device as code
 use Rattle.record.specs.DeviceMeaning.{as_stage, as_transfer, as_device, stages_of, pending_of}

@@ -1,8 +1,8 @@
 -- Laws of the registers: which bytes encode which request, and which bytes are ignored.
-use mathlib.Core.Path.{◌≡◌, refl, sym, ap, ◌∙◌}
+use mathlib.Core.Path.{◌≡◌, refl, sym, ◌∙◌}
 use mathlib.Core.Bool.{Bool, true, false, ◌&&◌, and-false}
 use mathlib.Core.Logic.{◌⊎◌, inl, inr}
-use Prim.Native.Nat.{ℕ, zero, suc, ◌+◌, ◌*◌, ◌^◌, ◌<◌}
+use Prim.Native.Nat.{ℕ, suc, ◌+◌, ◌*◌, ◌^◌, ◌<◌}
 use native.Mathlib.Omega.{arith}
 use mathlib.Core.List.{List, [], ◌∷◌}
 use lib.ListN.{get_or}
@@ -11,7 +11,7 @@ use borrow.Author.Tests.{ne_eqb}
 use Rattle.wire.specs.Choice.{if◌then◌else◌}
 use Rattle.wire.specs.Numbers.{get}
 use Rattle.wire.proofs.NumbersLaws.{get-agree}
-use Rattle.model.specs.Registers.{Direction, read, write, Request, status_read, key_sector, data_transfer, sector_access, other, features, count8, count16, lba_low, lba_mid, lba_mid16, lba_high, command_byte, lba48, control, log_page, smart_log, log_ext, request_of}
+use Rattle.model.specs.Registers.{Direction, read, write, status_read, key_sector, data_transfer, sector_access, other, features, count8, count16, lba_low, lba_mid, lba_mid16, lba_high, command_byte, lba48, log_page, smart_log, log_ext, request_of}
 
 -- ---- SMART read log and write log
 

@@ -1,14 +1,14 @@
 -- Laws of a save: it adds one entry and changes no other byte, and power-on reads back what was saved.
 use mathlib.Core.Path.{◌≡◌, refl, sym, ap, ◌∙◌}
 use mathlib.Core.Bool.{Bool, true, false, ◌||◌}
-use Prim.Native.Nat.{ℕ, suc, ◌+◌, ◌-◌, ◌*◌, ◌/◌, ◌%◌, ◌^◌, ◌≤◌, ◌<◌}
+use Prim.Native.Nat.{ℕ, suc, ◌+◌, ◌-◌, ◌*◌, ◌≤◌, ◌<◌}
 use native.Mathlib.Omega.{arith}
 use mathlib.Core.List.{List, ◌++◌}
 use lib.ListN.{length, get_or, length-append}
 use lib.Seq.{length-sets}
 use lib.Dec.{eqb, leb, ltb}
 use borrow.Author.Tests.{eqb-true, leb-true, ltb-true, eq-eqb, le-leb, ne_eqb, eqb-false}
-use Rattle.wire.specs.Choice.{if◌then◌else◌, first_failed}
+use Rattle.wire.specs.Choice.{first_failed}
 use Rattle.wire.specs.Parts.{part}
 use Rattle.wire.specs.Bytes.{Bytes}
 use Rattle.wire.proofs.ChoiceLaws.{and_left, and_right, all_pass, pass_all}

@@ -1,6 +1,6 @@
 -- A save that answers 0, and then a power-on from that image on that disk.
 use mathlib.Core.Path.{◌≡◌, sym, ap, ◌∙◌}
-use Prim.Native.Nat.{ℕ, ◌+◌, ◌*◌, ◌/◌}
+use Prim.Native.Nat.{ℕ, ◌+◌}
 use mathlib.Core.List.{List}
 use Rattle.wire.specs.Choice.{first_failed}
 use Rattle.model.specs.Sizes.{entry_size}

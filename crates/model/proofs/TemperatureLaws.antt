@@ -2,12 +2,12 @@
 use mathlib.Core.Path.{◌≡◌, ap, refl, sym, ◌∙◌}
 use mathlib.Core.Bool.{Bool, true, false}
 use mathlib.Core.Logic.{◌⊎◌, inl, inr}
-use Prim.Native.Nat.{ℕ, suc, ◌+◌, ◌-◌, ◌≤◌, ◌<◌}
+use Prim.Native.Nat.{ℕ, suc, ◌+◌, ◌≤◌, ◌<◌}
 use native.Mathlib.Omega.{arith}
 use lib.ListN.{set}
 use lib.IntN.{ℤ, pos, negsuc, ◌-ℤ◌}
 use lib.Signed.{le_z, ◌≤ℤ◌, ≤ℤ_refl}
-use lib.Dec.{eqb, leb, le→leb}
+use lib.Dec.{eqb, le→leb}
 use borrow.Author.Tests.{eqb-true, ne_eqb, leb-false, lt-ltb, le-ltb}
 use Rattle.wire.specs.Choice.{if◌then◌else◌}
 use Rattle.model.specs.Sizes.{history_size, missing}

@@ -1,29 +1,29 @@
 -- Every change of the device keeps its values in document 01's ranges.
-use mathlib.Core.Path.{◌≡◌, refl, sym, ap, ◌∙◌, subst}
+use mathlib.Core.Path.{◌≡◌, refl, sym, ◌∙◌, subst}
 use mathlib.Core.Bool.{Bool, true, false}
 use mathlib.Core.Logic.{◌⊎◌, inl, inr}
-use Prim.Native.Nat.{ℕ, zero, suc, ◌+◌, ◌*◌, ◌^◌, ◌≤◌, ◌<◌}
+use Prim.Native.Nat.{ℕ, zero, suc, ◌+◌, ◌^◌, ◌≤◌, ◌<◌}
 use native.Mathlib.Omega.{arith}
 use mathlib.Core.List.{List, [], ◌∷◌}
-use lib.ListN.{length, get_or, set, length-set, replicate, length-replicate}
+use lib.ListN.{length, set, length-set, replicate, length-replicate}
 use lib.Signed.{le_z}
 use lib.Dec.{eqb, ltb}
-use borrow.Author.Tests.{eqb-true, eqb-false, ltb-true, ltb-false}
+use borrow.Author.Tests.{eqb-false, ltb-true}
 use Rattle.wire.specs.Choice.{if◌then◌else◌}
 use Rattle.wire.specs.Bytes.{Bytes}
 use Rattle.wire.proofs.BytesLaws.{bytes-set, bytes-replicate}
-use Rattle.model.specs.Sizes.{native_limit, port_count, history_size, missing}
-use Rattle.model.specs.Device.{Fill, idle, running, Transfer, none, table, fill_data, read_long, write_long, Feature, Command, Settings, Thermal, Device}
-use Rattle.model.specs.Update.{with_command, with_settings, with_thermal, with_initialized, with_locked, with_visible, with_code, with_key, with_fill, with_pending}
+use Rattle.model.specs.Sizes.{port_count, history_size, missing}
+use Rattle.model.specs.Device.{Fill, idle, running, Transfer, none, table, fill_data, read_long, write_long, Command, Settings, Thermal, Device}
+use Rattle.model.specs.Update.{with_command, with_settings, with_initialized, with_locked, with_code, with_key, with_fill, with_pending}
 use Rattle.model.specs.Registers.{Direction, read, write}
 use Rattle.model.specs.Key.{FeatureName, write_cache, reordering, log_interval, highest_state}
-use Rattle.model.specs.Temperature.{signed, new_maximum, next_index, sampled, empty_history, history_emptied}
+use Rattle.model.specs.Temperature.{signed, new_maximum, next_index, sampled, history_emptied}
 use Rattle.model.specs.Fill.{running_code, start_fill, nothing_pending, stop_fill, interrupt, whole_disk, advanced}
 use Rattle.model.specs.Decide.{with_timer, with_feature, after_feature}
-use Rattle.model.specs.Valid.{FillValid, TransferValid, PendingValid, pending_count, pending_limit, CodeValid, CommandValid, TimerValid, StateValid, SettingsValid, ThermalValid, Valid}
+use Rattle.model.specs.Valid.{FillValid, TransferValid, PendingValid, pending_count, pending_limit, CommandValid, TimerValid, SettingsValid, ThermalValid, Valid}
 use Rattle.model.proofs.KeyLaws.{feature_number}
 use Rattle.model.proofs.TemperatureLaws.{index-small}
-use Rattle.model.proofs.OwnerLaws.{Quiet, interrupt-quiet}
+use Rattle.model.proofs.OwnerLaws.{Quiet}
 use Rattle.model.proofs.RequestLaws.{interrupt-kept}
 
 -- ---- parts of the device that have no range

@@ -2,7 +2,7 @@
 use mathlib.Core.Path.{◌≡◌, refl, sym, ap, ◌∙◌, subst}
 use mathlib.Core.Bool.{Bool, true, false, ◌||◌}
 use mathlib.Core.Logic.{◌⊎◌, inl, inr}
-use Prim.Native.Nat.{ℕ, zero, suc, ◌*◌, ◌/◌, ◌%◌, ◌≤◌, ◌<◌}
+use Prim.Native.Nat.{ℕ, zero, suc, ◌*◌, ◌%◌, ◌≤◌, ◌<◌}
 use native.Mathlib.Omega.{arith}
 use mathlib.Core.List.{List, []}
 use lib.ListN.{length, length-append}
@@ -35,7 +35,7 @@ use Rattle.model.specs.Owner.{set_visible as set_visible_device, sample as sampl
 use Rattle.model.specs.Image.{whole_sectors, readable, power_on_checks, same_disk, restored, blank, newest_in}
 use Rattle.model.specs.Image.{power_on as power_on_device}
 use Rattle.model.specs.Machine.{Port, empty, request, reply, Machine, while_running, machine, with_port, held_bytes}
-use Rattle.model.specs.Step.{OwnerStep, lock, unlock, set_visible, sample, Step, take, serve, give, work, owner, repair, save, power_on, good_value, checks, does, is_request, volume, served, serve_decided, worked, repaired, powered_on, step}
+use Rattle.model.specs.Step.{OwnerStep, lock, unlock, set_visible, sample, Step, take, serve, give, work, owner, repair, save, power_on, good_value, checks, does, volume, served, serve_decided, worked, repaired, powered_on, step}
 use Rattle.model.specs.Valid.{SectorValid, PortValid, Sized, DiskValid, Valid, MachineValid, OwnerFed, Fed}
 use Rattle.model.proofs.StepLaws.{step-done, step-refused, answers-numbered}
 use Rattle.model.proofs.FormatLaws.{status-at, table_at, table-bytes, reply-sized}

@@ -8,7 +8,7 @@ use lib.ListN.{length}
 use Rattle.wire.proofs.ChoiceLaws.{between-within}
 use Rattle.wire.proofs.PartsLaws.{length_part, length-repeated}
 use Rattle.model.specs.Sizes.{sector_size, registers_size, port_count, mailbox_size}
-use Rattle.model.specs.Device.{Fill, running, Device}
+use Rattle.model.specs.Device.{running, Device}
 use Rattle.model.specs.Update.{with_fill}
 use Rattle.model.specs.Registers.{key_sector, data_of, request_of}
 use Rattle.model.specs.Key.{word, start, count, fill_pattern, pattern_sector, accepted, action_of}

@@ -1,6 +1,6 @@
 -- The device with one part changed.
 use Rattle.std.specs.Prelude.{Bool, ℕ, List}
-use Rattle.model.specs.Device.{Fill, Transfer, Command, Feature, Settings, Thermal, Device}
+use Rattle.model.specs.Device.{Fill, Transfer, Command, Settings, Thermal, Device}
 
 abbrev pub with_command : Command → Device → Device
 with_command c d =

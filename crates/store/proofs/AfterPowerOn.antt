@@ -1,6 +1,6 @@
 -- What holds of a power-on that answers 0, and for every list of steps after it, in addition to condition 3.
 use mathlib.Core.Path.{◌≡◌, sym, ap, ◌∙◌, subst}
-use Prim.Native.Nat.{ℕ, ◌*◌, ◌≤◌}
+use Prim.Native.Nat.{ℕ}
 use mathlib.Core.List.{List, [], ◌∷◌, ◌++◌}
 use lib.ListN.{length}
 use Rattle.wire.specs.Numbers.{get}

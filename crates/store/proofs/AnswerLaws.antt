@@ -2,15 +2,15 @@
 use mathlib.Core.Path.{◌≡◌, refl, sym, ap, subst, ◌∙◌}
 use mathlib.Core.Bool.{Bool, true, false}
 use mathlib.Core.Logic.{◌↔◌}
-use Prim.Native.Nat.{ℕ, zero, suc, ◌+◌, ◌*◌, ◌/◌, ◌%◌, ◌≤◌, ◌<◌}
+use Prim.Native.Nat.{ℕ, suc, ◌+◌, ◌/◌, ◌≤◌, ◌<◌}
 use native.Mathlib.Omega.{arith}
 use mathlib.Core.List.{List, [], ◌∷◌}
 use lib.ListN.{length, drop}
 use lib.Dec.{eqb, ltb, leb}
-use borrow.Author.Tests.{eqb-true, eqb-false, eq-eqb, ltb-true, lt-ltb, leb-true, leb-false, le-leb}
+use borrow.Author.Tests.{eqb-false, ltb-true, lt-ltb, leb-true, leb-false, le-leb}
 use Rattle.wire.specs.Choice.{if◌then◌else◌, Check, first_failed}
-use Rattle.wire.proofs.ChoiceLaws.{Numbered, and_left, and_right, between-within, first-bound, attempt-refused, attempt-done, attempt-answer, all_pass, pass_all}
-use Rattle.model.specs.Sizes.{sector_size, native_limit, mailbox_size}
+use Rattle.wire.proofs.ChoiceLaws.{Numbered, and_left, and_right, first-bound, attempt-refused, attempt-done, attempt-answer, all_pass, pass_all}
+use Rattle.model.specs.Sizes.{mailbox_size}
 use Rattle.model.specs.Image.{well_sized, readable, same_disk}
 use Rattle.model.specs.Machine.{Machine, request}
 use Rattle.model.specs.Step.{Step, take, serve, give, work, owner, repair, save, power_on, Seen, checks, unchanged, step}
@@ -18,12 +18,10 @@ use Rattle.model.specs.Valid.{Fed, Each, MachineValid}
 use Rattle.model.proofs.StepLaws.{keeps_order, answer-first, answer-is}
 use Rattle.model.proofs.DiskSizes.{well-sized}
 use Rattle.model.proofs.TakenLaws.{LeavesRequest, AllLeave, after, requests-stay}
-use Rattle.model.proofs.RefusalLaws.{power-on-empty}
-use Rattle.store.specs.Areas.{record_size, private_size}
 use Rattle.store.specs.Record.{decode}
 use Rattle.store.specs.Sound.{sound}
 use Rattle.store.specs.Store.{Store, machine_of}
-use Rattle.store.specs.Entries.{SaveAfter, save_checks, save_entry, save_bytes, power_on_checks, power_on_bytes}
+use Rattle.store.specs.Entries.{SaveAfter, save_checks, save_entry, save_bytes}
 use Rattle.store.specs.OnStore.{on_store}
 use Rattle.store.proofs.ExitLaws.{store_checks, done_store, done_seen, on-refused, on-done}
 use Rattle.store.proofs.FollowLaws.{StoreValid, machine-valid}

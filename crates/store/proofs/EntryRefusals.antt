@@ -11,7 +11,7 @@ use Rattle.model.specs.Image.{readable, same_disk, has_room, whole_sectors, well
 use Rattle.model.specs.Image.{power_on_checks as disk_checks}
 use Rattle.model.specs.Step.{set_visible, Step, take, serve, give, work, owner, repair, save, power_on}
 use Rattle.model.specs.Decide.{Serving}
-use Rattle.model.specs.Disk.{Disk, HasSize}
+use Rattle.model.specs.Disk.{HasSize}
 use Rattle.model.proofs.RefusalLaws.{power-on-disk, power-on-check-area, power-on-length, power-on-unreadable, power-on-other}
 use Rattle.model.specs.Sizes.{mailbox_size}
 use Rattle.store.specs.Record.{empty, held, answered, is_stage, decode}

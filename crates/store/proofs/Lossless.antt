@@ -1,14 +1,11 @@
 -- Nothing is lost by reading bytes as a machine: valid bytes that represent the same machine are the same, except where no rule looks.
-use mathlib.Core.Path.{◌≡◌, refl, sym, ap, ap₂, ◌∙◌, subst}
-use mathlib.Core.Bool.{Bool, true, false}
-use Prim.Native.Nat.{ℕ, zero, suc, ◌<◌}
+use mathlib.Core.Path.{◌≡◌, refl, sym, ap, ◌∙◌}
+use Prim.Native.Nat.{ℕ}
 use native.Mathlib.Omega.{arith}
-use mathlib.Core.List.{List, [], ◌∷◌}
-use lib.ListN.{length, get_or}
+use mathlib.Core.List.{List}
 use lib.Seq.{ext_get_or}
-use Rattle.model.specs.Device.{Fill, idle, running, Device}
-use Rattle.model.specs.Machine.{Port, Machine, while_running}
-use Rattle.model.specs.Machine.{empty as nothing, request, reply}
+use Rattle.model.specs.Device.{Fill, idle, running}
+use Rattle.model.specs.Machine.{Machine, while_running}
 use Rattle.store.specs.Record.{Stage, empty, held, answered, Contents, encode, decode}
 use Rattle.store.specs.Store.{Store, port_of, slot_bytes, fill_sector_of, stage_for, machine_of}
 use Rattle.store.proofs.SoundLaws.{sound-parts}

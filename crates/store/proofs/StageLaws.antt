@@ -2,12 +2,12 @@
 use mathlib.Core.Path.{◌≡◌, refl, sym, ap, ◌∙◌}
 use mathlib.Core.Bool.{true}
 use mathlib.Core.List.{List, [], ◌∷◌, ◌++◌}
-use Prim.Native.Nat.{ℕ, zero, suc, ◌+◌, ◌*◌, ◌≤◌, ◌<◌}
+use Prim.Native.Nat.{ℕ, zero, suc, ◌<◌}
 use native.Mathlib.Omega.{arith}
 use lib.ListN.{length, get_or, take, drop}
 use Rattle.wire.specs.Numbers.{put}
 use Rattle.wire.specs.Parts.{zeros}
-use Rattle.wire.specs.Layout.{Field, form}
+use Rattle.wire.specs.Layout.{form}
 use Rattle.wire.proofs.LayoutLaws.{length-form}
 use Rattle.wire.proofs.PartsLaws.{put_front}
 use Rattle.wire.proofs.WithinLaws.{field-set}

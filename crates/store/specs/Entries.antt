@@ -1,6 +1,6 @@
 -- The twelve entries: what each answers, and every byte afterwards of the buffers that it may write. It only reads the other
 -- buffers. An entry whose checks fail answers with the number of the first that fails, and changes nothing.
-use Rattle.std.specs.Prelude.{Bool, true, false, ◌&&◌, ℕ, ◌+◌, ◌*◌, List, [], ◌∷◌, length, set, replicate, eqb, ltb}
+use Rattle.std.specs.Prelude.{Bool, ◌&&◌, ℕ, ◌+◌, ◌*◌, List, [], ◌∷◌, length, set, replicate, eqb, ltb}
 use Rattle.std.proofs.lemmas.List.Edits.{sets}
 use Rattle.wire.specs.Choice.{Check, Guarded, attempt}
 use Rattle.wire.specs.Parts.{zeros}

@@ -1,5 +1,5 @@
 -- A step on the bytes, built from the entries and nothing else: from all but convert, which is no step.
-use Rattle.std.specs.Prelude.{ℕ, List, []}
+use Rattle.std.specs.Prelude.{[]}
 use Rattle.model.specs.Step.{OwnerStep, lock, unlock, set_visible, sample, Step, take, serve, give, work, owner, repair, save, power_on, Outcome, answer_only, answered_mailbox, answered_image}
 use Rattle.model.specs.Disk.{Disk, disk_of}
 use Rattle.store.specs.Store.{Store}

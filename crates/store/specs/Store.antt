@@ -1,5 +1,5 @@
 -- What each step passes on to the next, record, private area and disk with its check area, and the machine that they represent.
-use Rattle.std.specs.Prelude.{ℕ, List, get_or}
+use Rattle.std.specs.Prelude.{ℕ, get_or}
 use Rattle.wire.specs.Parts.{part}
 use Rattle.model.specs.Sizes.{sector_size}
 use Rattle.model.specs.Disk.{Disk}

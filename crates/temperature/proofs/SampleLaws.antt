@@ -11,7 +11,7 @@ use Rattle.wire.specs.Choice.{if◌then◌else◌}
 use Rattle.wire.specs.Bytes.{Bytes}
 use Rattle.model.specs.Sizes.{history_size}
 use Rattle.model.specs.Update.{with_thermal}
-use Rattle.model.specs.Device.{Thermal, Device}
+use Rattle.model.specs.Device.{Thermal}
 use Rattle.model.specs.Temperature.{table_head_size, next_index}
 use Rattle.model.specs.Owner.{sample}
 use Rattle.store.specs.Areas.{head_size}

@@ -4,7 +4,7 @@
 ghost use Rattle.std.specs.Prelude.{◌≤◌, length};
 ghost use Rattle.trace_lines.specs.Lines.{room};
 
-use libc::{STDIN_FILENO, STDOUT_FILENO};
+use std::io::{self, Read, Write};
 use timing::{Drive, RECORD};
 use trace_lines::{CUT, LINE};
 
@@ -23,38 +23,48 @@ struct Block {
 }
 
 // Reads a block and prints its lines.
-fn next(drive: Drive, input: &mut [u8], text: &mut [u8]) -> Block
+fn next<R: Read, W: Write>(
+    reader: &mut R,
+    out: &mut W,
+    drive: Drive,
+    input: &mut [u8],
+    text: &mut [u8],
+) -> io::Result<Block>
     requires { room (length input.old) ≤ length text.old }
 {
-    let count = io::read_full(STDIN_FILENO, input);
+    let count = console::read_full(reader, input)?;
     let printed = trace_lines::put_trace(drive, &input[..count], text);
-    let last = printed.drive;
-    let end = printed.end;
-    let written = io::write_all(STDOUT_FILENO, &text[..end]);
-    Block {
-        drive: last,
-        more: written & (count == INPUT),
-    }
+    out.write_all(&text[..printed.end])?;
+    Ok(Block {
+        drive: printed.drive,
+        more: count == INPUT,
+    })
 }
 
 // The loop is counted, so that it ends; it leaves off where the input does.
-fn all(input: &mut [u8], text: &mut [u8])
+fn all<R: Read, W: Write>(
+    reader: &mut R,
+    out: &mut W,
+    input: &mut [u8],
+    text: &mut [u8],
+) -> io::Result<()>
     requires { room (length input.old) ≤ length text.old }
 {
     let mut drive = Drive::start();
-    let mut done: u64 = 0;
-    while done < u64::MAX {
-        let block = next(drive, input, text);
+    for _ in 0..u64::MAX {
+        let block = next(reader, out, drive, input, text)?;
         if !block.more {
-            return;
+            break;
         }
         drive = block.drive;
-        done += 1;
     }
+    Ok(())
 }
 
-fn main() {
+fn main(rt: HostRuntime) -> io::Result<()> {
     let mut input = [0u8; INPUT];
     let mut text = [0u8; TEXT];
-    all(&mut input, &mut text);
+    let mut reader = rt.reader();
+    let mut out = io::writer(&rt);
+    all(&mut reader, &mut out, &mut input, &mut text)
 }

@@ -1,20 +1,20 @@
 -- A run of bytes is the form of the fields that are read from it, if every other byte of it is 0.
 use mathlib.Core.Path.{◌≡◌, refl, sym, ap, ◌∙◌}
-use mathlib.Core.Bool.{Bool, true, false, ◌&&◌, ◌||◌}
-use Prim.Native.Nat.{ℕ, zero, suc, ◌+◌, ◌-◌, ◌*◌, ◌/◌, ◌%◌, ◌^◌, ◌≤◌, ◌<◌}
-use native.Mathlib.Nat.{add-zero, add-suc, suc-add}
+use mathlib.Core.Bool.{true}
+use Prim.Native.Nat.{ℕ, zero, suc, ◌+◌, ◌-◌, ◌*◌, ◌/◌, ◌%◌, ◌≤◌, ◌<◌}
+use native.Mathlib.Nat.{add-zero}
 use native.Mathlib.Omega.{arith}
 use native.Mathlib.Decide.{dec_lt}
 use mathlib.Core.List.{List, [], ◌∷◌}
 use lib.ListN.{length, get_or}
 use lib.Seq.{sets, ext_get_or}
-use lib.Dec.{leb, ltb}
-use borrow.Author.Tests.{leb-true, lt-ltb, le-ltb, le-leb, lt-leb}
+use lib.Dec.{leb}
+use borrow.Author.Tests.{lt-ltb, le-ltb, le-leb}
 use Rattle.wire.specs.Numbers.{le, get, put}
 use Rattle.wire.specs.Parts.{part, zeros}
 use Rattle.wire.specs.Layout.{Field, stores, form, ordered, Reads, outside}
 use Rattle.wire.specs.Bytes.{Bytes}
-use Rattle.wire.proofs.ChoiceLaws.{and_left, and_right}
+use Rattle.wire.proofs.ChoiceLaws.{and_right}
 use Rattle.wire.proofs.NumbersLaws.{get_or_sets_before, get_or-sets-after, get_or-sets-in, length-le, length-put}
 use Rattle.wire.proofs.PartsLaws.{length_part, length-zeros, get_or-zeros, get_or_part}
 use Rattle.wire.proofs.LayoutLaws.{length-form, ordered_end}

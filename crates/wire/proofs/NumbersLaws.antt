@@ -1,5 +1,5 @@
 -- Laws of numbers in runs of bytes: what is stored is read back, and a store does not change the rest.
-use mathlib.Core.Path.{◌≡◌, refl, sym, ap, ◌∙◌}
+use mathlib.Core.Path.{◌≡◌, refl, ap, ◌∙◌}
 use Prim.Native.Nat.{ℕ, zero, suc, ◌+◌, ◌*◌, ◌/◌, ◌%◌, ◌^◌, ◌≤◌, ◌<◌}
 use native.Mathlib.Nat.{suc-add, add-suc, zero-add, add-zero, pow-succ', mul-add, mul_assoc, mod-add-div, mod-lt}
 use native.Mathlib.Omega.{arith}

@@ -1,5 +1,5 @@
 -- A layout: numbers at fixed places of a run of bytes.
-use Rattle.std.specs.Prelude.{◌≡◌, Bool, true, false, ◌&&◌, ◌||◌, ℕ, ◌+◌, ◌^◌, ◌<◌, List, [], ◌∷◌, leb, ltb}
+use Rattle.std.specs.Prelude.{◌≡◌, Bool, true, ◌&&◌, ◌||◌, ℕ, ◌+◌, ◌^◌, ◌<◌, List, [], ◌∷◌, leb, ltb}
 use Rattle.wire.specs.Numbers.{get, put}
 use Rattle.wire.specs.Parts.{zeros}
 

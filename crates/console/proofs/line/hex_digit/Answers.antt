@@ -1,5 +1,4 @@
 use borrow.Author.Tests.{lt-ltb, le-ltb}
-use borrow.Author.Rules.{rules}
 use Rattle.console.proofs.line.hex_digit.Goals as goal
 
 pub returns-then-d-lt-TEN : goal.returns-then-d-lt-TEN

@@ -1,9 +1,8 @@
 use mathlib.Core.Path.{refl}
-use borrow.Author.Rules.{rules}
 use Rattle.console.proofs.line.put_byte.Goals as goal
 
 pub returns : goal.returns
 returns c = record {
-      value = refl;
-      wrote = record { place = refl; line = refl };
-    }
+  value = refl;
+  wrote = record { place = refl; line = refl };
+}

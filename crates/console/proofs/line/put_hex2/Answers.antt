@@ -1,6 +1,5 @@
 -- Two digits, one after the other.
 use native.Mathlib.Omega.{arith}
-use borrow.Author.Rules.{rules}
 use Rattle.console.proofs.DigitsLaws.{hex-two}
 use Rattle.console.proofs.WroteLaws.{wrote_then, wrote_as}
 use Rattle.console.proofs.line.put_hex2.Goals as goal

@@ -1,6 +1,5 @@
 -- The two high digits, then the two low ones.
 use native.Mathlib.Omega.{arith}
-use borrow.Author.Rules.{rules}
 use Rattle.console.proofs.WroteLaws.{wrote_then, wrote_as}
 use Rattle.console.proofs.DigitsLaws.{hex-halves}
 use Rattle.console.proofs.line.put_hex4.Goals as goal

@@ -1,7 +1,6 @@
 use mathlib.Core.Path.{refl}
 use Rattle.wire.proofs.PartsLaws.{part-whole}
 use lib.ListN.{length}
-use borrow.Author.Rules.{rules}
 use Rattle.console.proofs.line.put_text.Goals as goal
 
 pub returns : goal.returns

@@ -1,4 +1,3 @@
-use borrow.Author.Rules.{rules}
 use Rattle.device_update.proofs.InterruptLaw.{interrupted}
 use Rattle.device_update.proofs.command.interrupt.Goals as goal
 

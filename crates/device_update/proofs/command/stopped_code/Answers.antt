@@ -1,4 +1,3 @@
-use borrow.Author.Rules.{rules}
 use Rattle.device_update.proofs.command.stopped_code.Goals as goal
 
 pub returns-in-Idle : goal.returns-in-Idle

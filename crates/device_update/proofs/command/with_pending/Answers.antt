@@ -1,5 +1,4 @@
 use Rattle.device_update.proofs.FourSlots.{pending-set}
-use borrow.Author.Rules.{rules}
 use Rattle.device_update.proofs.command.with_pending.Goals as goal
 
 pub returns : goal.returns

@@ -2,7 +2,6 @@ use mathlib.Core.Bool.{false}
 use Rattle.model.specs.Fill.{interrupt}
 use Rattle.model.specs.Update.{with_initialized}
 use Rattle.device_update.proofs.ChangeLaws.{changed_then}
-use borrow.Author.Rules.{rules}
 use Rattle.device_update.proofs.owner.repaired.Goals as goal
 
 pub returns-then-flips : goal.returns-then-flips

@@ -1,7 +1,6 @@
 use mathlib.Core.Path.{ap}
 use Rattle.model.specs.Update.{with_locked}
 use Rattle.model.specs.Owner.{set_lock}
-use borrow.Author.Rules.{rules}
 use Rattle.device_update.proofs.owner.set_lock.Goals as goal
 
 pub returns : goal.returns

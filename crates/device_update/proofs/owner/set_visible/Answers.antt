@@ -4,7 +4,6 @@ use lib.Dec.{eqb}
 use Rattle.model.specs.Device.{Device}
 use Rattle.model.specs.Update.{with_visible, with_initialized}
 use Rattle.model.specs.Owner.{set_visible}
-use borrow.Author.Rules.{rules}
 use Rattle.device_update.proofs.owner.set_visible.Goals as goal
 
 pub returns : goal.returns

@@ -1,4 +1,3 @@
-use borrow.Author.Rules.{rules}
 use Rattle.entry_timers.proofs.timers.read_timer.Goals as goal
 
 pub returns-in-LeftOut : goal.returns-in-LeftOut

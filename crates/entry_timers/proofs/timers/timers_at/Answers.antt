@@ -1,6 +1,5 @@
 use mathlib.Core.Path.{sym, ◌∙◌}
 use borrow.Author.Tests.{eq-eqb, ne_eqb}
-use borrow.Author.Rules.{rules}
 use Rattle.entry_timers.proofs.timers.timers_at.Goals as goal
 
 pub returns-then-form-ne-WITH_TIMERS : goal.returns-then-form-ne-WITH_TIMERS

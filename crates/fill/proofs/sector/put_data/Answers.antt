@@ -1,5 +1,4 @@
 use Rattle.fill.proofs.SectorLaws.{data-stored}
-use borrow.Author.Rules.{rules}
 use Rattle.fill.proofs.sector.put_data.Goals as goal
 
 pub returns : goal.returns

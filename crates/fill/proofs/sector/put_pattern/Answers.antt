@@ -1,5 +1,4 @@
 use Rattle.fill.proofs.SectorLaws.{pattern-stored}
-use borrow.Author.Rules.{rules}
 use Rattle.fill.proofs.sector.put_pattern.Goals as goal
 
 pub returns : goal.returns

@@ -1,6 +1,5 @@
 use native.Mathlib.Omega.{arith}
 use Rattle.model.specs.Fill.{work_count}
-use borrow.Author.Rules.{rules}
 use Rattle.fill.proofs.steps.count_of.Goals as goal
 
 pub returns-then-left-n : goal.returns-then-left-n

@@ -2,7 +2,6 @@ use Rattle.fill.proofs.StepsLaws.{moved_none, moved-idle, moved-running, left-bo
 use native.Mathlib.Omega.{arith}
 use mathlib.Core.Path.{ap}
 use Rattle.record.specs.DeviceMeaning.{as_fill}
-use borrow.Author.Rules.{rules}
 use Rattle.fill.proofs.steps.moved_on.Goals as goal
 
 pub returns-then-k-eq0 : goal.returns-then-k-eq0

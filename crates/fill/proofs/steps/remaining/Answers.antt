@@ -1,4 +1,3 @@
-use borrow.Author.Rules.{rules}
 use Rattle.fill.proofs.steps.remaining.Goals as goal
 
 pub returns-in-Running : goal.returns-in-Running

@@ -8,7 +8,6 @@ use Rattle.model.specs.Disk.{disk_of}
 use Rattle.store.specs.Areas.{fill_place}
 use native.Mathlib.Omega.{arith}
 use Rattle.fill.proofs.StepsLaws.{count_left, work-fits, worked-count, worked-record, worked-disk}
-use borrow.Author.Rules.{rules}
 use Rattle.fill.proofs.steps.work.Goals as goal
 use Rattle.fill.proofs.steps.work.Goals.{After-next_sector-next}
 

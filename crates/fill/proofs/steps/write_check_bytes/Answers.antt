@@ -1,7 +1,5 @@
-use mathlib.Core.Path.{refl}
 use native.Mathlib.Omega.{arith}
 use Rattle.wire.specs.Parts.{repeated}
-use borrow.Author.Rules.{rules}
 use Rattle.fill.proofs.steps.write_check_bytes.Goals as goal
 
 pub returns-then-k-eq0 : goal.returns-then-k-eq0

@@ -1,9 +1,8 @@
 use native.Mathlib.Numerals.{add-one}
 use mathlib.Core.Path.{◌≡◌, refl}
-use Prim.Native.Nat.{◌+◌, ◌*◌, ◌-◌, ◌≤◌, zero-le}
+use Prim.Native.Nat.{◌*◌, zero-le}
 use native.Mathlib.Omega.{arith}
-use lib.ListN.{length}
-use lib.Seq.{sets, length-sets}
+use lib.Seq.{length-sets}
 use Rattle.wire.specs.Parts.{repeated}
 use Rattle.wire.proofs.PartsLaws.{length_part, repeat-more}
 use Rattle.model.specs.Sizes.{sector_size}
@@ -35,7 +34,6 @@ loop-j-preserved c =
       omega arith,
       rw (c.copy_part.ensures, c.loop-j.invariant.3, c.loop-j.invariant.2, add-one) (repeat-more a.disk.now (fill_sector_of a.area.now) (sector_size * a.next) sector_size c.loop-j.j (length_part a.area.now fill_place sector_size (omega (arith, c.requires)))),
     )
-
 
 pub returns : goal.returns
 returns c =

@@ -1,15 +1,11 @@
 -- What holds at each turn.
-use native.Mathlib.Numerals.{add-one}
-use mathlib.Core.Path.{◌≡◌, refl}
-use Prim.Native.Nat.{◌+◌, ◌*◌, ◌-◌, ◌≤◌, zero-le}
-use native.Mathlib.Omega.{arith}
+use mathlib.Core.Path.{◌≡◌}
+use Prim.Native.Nat.{◌+◌, ◌*◌, ◌-◌, ◌≤◌}
 use lib.ListN.{length}
-use lib.Seq.{sets, length-sets}
+use lib.Seq.{sets}
 use Rattle.wire.specs.Parts.{repeated}
-use Rattle.wire.proofs.PartsLaws.{length_part, repeat-more}
 use Rattle.model.specs.Sizes.{sector_size}
 use Rattle.store.specs.Store.{fill_sector_of}
-use Rattle.store.specs.Areas.{fill_place}
 use Rattle.fill.proofs.steps.write_sectors.Given as goal
 
 abbrev pub invariant-loop-j : goal.invariant-loop-j

@@ -1,7 +1,6 @@
 use mathlib.Core.Path.{sym, ◌∙◌}
 use native.Mathlib.Omega.{arith}
 use Rattle.image.proofs.ChainLaws.{readable-uneven, readable-long, readable-empty, readable-chain}
-use borrow.Author.Rules.{rules}
 use Rattle.image.proofs.chain.readable.Goals as goal
 
 pub returns-then-used-ne0 : goal.returns-then-used-ne0

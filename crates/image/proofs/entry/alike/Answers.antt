@@ -1,5 +1,4 @@
 use Rattle.model.specs.Image.{alike}
-use borrow.Author.Rules.{rules}
 use Rattle.image.proofs.entry.alike.Goals as goal
 
 pub returns : goal.returns

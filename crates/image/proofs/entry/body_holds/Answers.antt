@@ -1,5 +1,4 @@
 use Rattle.image.specs.EntryTests.{body_in_place}
-use borrow.Author.Rules.{rules}
 use Rattle.image.proofs.entry.body_holds.Goals as goal
 
 pub returns : goal.returns

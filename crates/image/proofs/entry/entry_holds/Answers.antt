@@ -1,6 +1,5 @@
 use native.Mathlib.Omega.{arith}
 use Rattle.image.proofs.EntryInPlace.{entry-in-place}
-use borrow.Author.Rules.{rules}
 use Rattle.image.proofs.entry.entry_holds.Goals as goal
 
 pub returns : goal.returns

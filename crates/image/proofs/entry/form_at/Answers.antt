@@ -1,6 +1,5 @@
 use mathlib.Core.Path.{ap, ◌∙◌}
 use Rattle.model.specs.Image.{form_of, saved_at}
-use borrow.Author.Rules.{rules}
 use Rattle.image.proofs.entry.form_at.Goals as goal
 
 pub returns : goal.returns

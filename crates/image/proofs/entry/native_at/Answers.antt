@@ -1,5 +1,4 @@
 use Rattle.model.specs.Image.{saved_at}
-use borrow.Author.Rules.{rules}
 use Rattle.image.proofs.entry.native_at.Goals as goal
 
 pub returns : goal.returns

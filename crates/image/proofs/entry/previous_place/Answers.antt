@@ -1,6 +1,5 @@
 use native.Mathlib.Omega.{arith}
 use borrow.Author.Tests.{eq-eqb, ne_eqb}
-use borrow.Author.Rules.{rules}
 use Rattle.image.proofs.entry.previous_place.Goals as goal
 
 pub returns-then-number-eq1 : goal.returns-then-number-eq1

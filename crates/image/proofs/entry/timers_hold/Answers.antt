@@ -2,7 +2,6 @@ use mathlib.Core.Bool.{◌&&◌, ◌||◌}
 use lib.Dec.{eqb}
 use Rattle.model.specs.Image.{form_two_byte}
 use Rattle.image.specs.EntryTests.{timers_in_place}
-use borrow.Author.Rules.{rules}
 use Rattle.image.proofs.entry.timers_hold.Goals as goal
 
 pub returns : goal.returns

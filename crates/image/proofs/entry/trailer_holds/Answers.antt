@@ -1,5 +1,4 @@
 use Rattle.image.specs.EntryTests.{trailer_in_place}
-use borrow.Author.Rules.{rules}
 use Rattle.image.proofs.entry.trailer_holds.Goals as goal
 
 pub returns : goal.returns

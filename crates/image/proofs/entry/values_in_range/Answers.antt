@@ -1,6 +1,5 @@
 use mathlib.Core.Path.{refl}
 use Rattle.model.specs.Image.{saved_at, in_range_under}
-use borrow.Author.Rules.{rules}
 use Rattle.image.proofs.entry.values_in_range.Goals as goal
 
 pub returns : goal.returns

@@ -1,5 +1,4 @@
 use Rattle.image.proofs.ImageAnswers.{room-left}
-use borrow.Author.Rules.{rules}
 use Rattle.image.proofs.refusal.has_room.Goals as goal
 
 pub returns : goal.returns

@@ -1,8 +1,6 @@
 use mathlib.Core.Path.{sym, ◌∙◌}
 use mathlib.Core.Bool.{true, false}
-use borrow.Author.Tests.{not-true, not-false}
 use Rattle.image.proofs.ImageAnswers.{read-long, read-bad, read-disk}
-use borrow.Author.Rules.{rules}
 use Rattle.image.proofs.refusal.read_refusal.Goals as goal
 
 pub returns-then-used-image : goal.returns-then-used-image

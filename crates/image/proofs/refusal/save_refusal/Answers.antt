@@ -1,9 +1,7 @@
 use mathlib.Core.Path.{sym, ap, ◌∙◌}
 use mathlib.Core.Bool.{Bool}
-use borrow.Author.Tests.{not-true, not-false}
 use Rattle.wire.specs.Choice.{if◌then◌else◌}
 use Rattle.image.proofs.ImageAnswers.{save-as-read, read-within, save-room}
-use borrow.Author.Rules.{rules}
 use Rattle.image.proofs.refusal.save_refusal.Goals as goal
 
 pub returns-then-n-ne-DONE : goal.returns-then-n-ne-DONE

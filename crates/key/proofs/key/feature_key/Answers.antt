@@ -1,7 +1,6 @@
 use Rattle.wire.proofs.ChoiceLaws.{passed, failed}
 use borrow.Author.Tests.{eq-eqb, ne_eqb}
 use Rattle.model.specs.Key.{pattern_sector}
-use borrow.Author.Rules.{rules}
 use Rattle.key.proofs.key.feature_key.Goals as goal
 
 pub returns-then-not-between : goal.returns-then-not-between

@@ -1,5 +1,4 @@
 use borrow.Author.Tests.{eq-eqb, ne_eqb}
-use borrow.Author.Rules.{rules}
 use Rattle.key.proofs.key.fill_end.Goals as goal
 
 pub returns-then-sectors-eq0 : goal.returns-then-sectors-eq0

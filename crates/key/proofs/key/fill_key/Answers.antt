@@ -1,9 +1,6 @@
 use Rattle.wire.proofs.ChoiceLaws.{passed, failed}
-use borrow.Author.Tests.{lt-leb, le-leb, leb-true}
+use borrow.Author.Tests.{lt-leb, le-leb}
 use Rattle.model.specs.Key.{pattern_sector}
-use Prim.Native.Nat.{◌+◌, ◌-◌}
-use native.Mathlib.Omega.{arith}
-use borrow.Author.Rules.{rules}
 use Rattle.key.proofs.key.fill_key.Goals as goal
 
 pub returns-then-not-between : goal.returns-then-not-between

@@ -1,6 +1,5 @@
 use borrow.Author.Tests.{lt-ltb, le-ltb}
 use Rattle.wire.proofs.ChoiceLaws.{passed, failed}
-use borrow.Author.Rules.{rules}
 use Rattle.key.proofs.key.long_key.Goals as goal
 
 pub returns-then-not-between : goal.returns-then-not-between

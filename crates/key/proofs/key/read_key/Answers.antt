@@ -5,7 +5,6 @@ use Rattle.wire.specs.Parts.{part}
 use Rattle.wire.proofs.PartsLaws.{number_of, number-first}
 use Rattle.model.specs.Sizes.{sector_size}
 use Rattle.key.proofs.VerdictLaws.{with-lock, with-action, with-long, with-fill, with-timer, with-feature, with-table}
-use borrow.Author.Rules.{rules}
 use Rattle.key.proofs.key.read_key.Goals as goal
 
 pub returns-then-locked : goal.returns-then-locked

@@ -1,5 +1,4 @@
 use Rattle.key.proofs.SumLaws.{sum-test}
-use borrow.Author.Rules.{rules}
 use Rattle.key.proofs.key.sum_within.Goals as goal
 
 pub returns : goal.returns

@@ -7,14 +7,13 @@ use Rattle.record_write.proofs.FramedLaws.{sound-framed}
 use Rattle.device_update.proofs.ChangeLaws.{four-slots}
 use Rattle.wire.proofs.ChoiceLaws.{passed, failed}
 use Rattle.owner_steps.proofs.OwnerStepLaws.{owner-written}
-use borrow.Author.Rules.{rules}
 use Rattle.owner_steps.proofs.owner.put_lock.Goals as goal
 
 pub returns-then-not-sound : goal.returns-then-not-sound
 returns-then-not-sound c = rw (failed c.sound.ensures c.if-not-sound.true) record {
-      value = refl;
-      device = refl;
-    }
+  value = refl;
+  device = refl;
+}
 
 pub decode-d-requires : goal.decode-d-requires
 decode-d-requires c = (sound-parts c.args.device.now (passed c.sound.ensures c.if-not-sound.false)).size

@@ -1,15 +1,14 @@
 use mathlib.Core.Path.{refl}
 use Rattle.wire.proofs.ChoiceLaws.{passed, failed}
 use Rattle.store.specs.Entries.{sample_bytes}
-use borrow.Author.Rules.{rules}
 use Rattle.owner_steps.proofs.owner.sample.Goals as goal
 
 pub returns-then-not-sound : goal.returns-then-not-sound
 unfolding sample_bytes
 returns-then-not-sound c = rw (failed c.sound.ensures c.if-not-sound.true) record {
-      value = refl;
-      device = refl;
-    }
+  value = refl;
+  device = refl;
+}
 
 pub sample-requires : goal.sample-requires
 sample-requires c = passed c.sound.ensures c.if-not-sound.false

@@ -9,7 +9,6 @@ use Rattle.device_update.proofs.ChangeLaws.{four-slots}
 use Rattle.wire.proofs.ChoiceLaws.{attempt-refused, attempt-done}
 use Rattle.store.specs.Entries.{owner_entry, set_visible_bytes}
 use Rattle.owner_steps.proofs.OwnerStepLaws.{visible-passed, owner-written}
-use borrow.Author.Rules.{rules}
 use Rattle.owner_steps.proofs.owner.set_visible.Goals as goal
 
 pub returns-then-refusal-ne-DONE : goal.returns-then-refusal-ne-DONE

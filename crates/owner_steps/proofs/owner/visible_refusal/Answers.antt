@@ -3,7 +3,6 @@ use Prim.Native.Nat.{ℕ}
 use Rattle.store.proofs.SoundLaws.{sound-parts}
 use Rattle.wire.proofs.ChoiceLaws.{passed, failed}
 use Rattle.wire.specs.Choice.{between}
-use borrow.Author.Rules.{rules}
 use Rattle.owner_steps.proofs.owner.visible_refusal.Goals as goal
 
 pub returns-then-not-sound : goal.returns-then-not-sound

@@ -1,7 +1,5 @@
 use mathlib.Core.List.{[], ◌∷◌}
-use native.Mathlib.Omega.{arith}
 use Rattle.store.specs.Record.{decode}
-use borrow.Author.Rules.{rules}
 use Rattle.record.proofs.codec.decode.Goals as goal
 
 pub returns : goal.returns

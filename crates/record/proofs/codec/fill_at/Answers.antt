@@ -1,6 +1,5 @@
 use mathlib.Core.Path.{◌∙◌}
 use Rattle.store.specs.Record.{fill_of, decode}
-use borrow.Author.Rules.{rules}
 use Rattle.record.proofs.codec.fill_at.Goals as goal
 
 pub returns : goal.returns

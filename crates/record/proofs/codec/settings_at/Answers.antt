@@ -1,5 +1,4 @@
 use Rattle.store.specs.Record.{decode}
-use borrow.Author.Rules.{rules}
 use Rattle.record.proofs.codec.settings_at.Goals as goal
 
 pub returns : goal.returns

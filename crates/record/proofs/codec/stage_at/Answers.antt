@@ -1,6 +1,5 @@
 use mathlib.Core.Path.{◌∙◌, ap}
 use Rattle.store.specs.Record.{stage_of}
-use borrow.Author.Rules.{rules}
 use Rattle.record.proofs.codec.stage_at.Goals as goal
 
 pub returns : goal.returns

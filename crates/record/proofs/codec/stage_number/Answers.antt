@@ -1,4 +1,3 @@
-use borrow.Author.Rules.{rules}
 use Rattle.record.proofs.codec.stage_number.Goals as goal
 
 pub returns-in-Empty : goal.returns-in-Empty

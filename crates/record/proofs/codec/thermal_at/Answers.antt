@@ -1,6 +1,5 @@
 use Rattle.record.specs.DeviceMeaning.{history_of}
 use Rattle.store.specs.Record.{decode}
-use borrow.Author.Rules.{rules}
 use Rattle.record.proofs.codec.thermal_at.Goals as goal
 
 pub returns : goal.returns

@@ -1,6 +1,5 @@
 use mathlib.Core.Path.{◌∙◌}
 use Rattle.store.specs.Record.{transfer_of}
-use borrow.Author.Rules.{rules}
 use Rattle.record.proofs.codec.transfer_at.Goals as goal
 
 pub returns : goal.returns

@@ -1,6 +1,5 @@
 use Rattle.store.specs.Record.{decode}
 use Rattle.record_check.proofs.PendingLaws.{command-tests}
-use borrow.Author.Rules.{rules}
 use Rattle.record_check.proofs.clauses.command_sound.Goals as goal
 
 pub returns : goal.returns

@@ -1,6 +1,5 @@
 use Rattle.store.specs.Record.{decode}
 use Rattle.record_check.proofs.SoundnessLaws.{device-tests}
-use borrow.Author.Rules.{rules}
 use Rattle.record_check.proofs.clauses.device_sound.Goals as goal
 
 pub returns : goal.returns

@@ -1,4 +1,3 @@
-use borrow.Author.Rules.{rules}
 use Rattle.record_check.proofs.clauses.fill_sound.Goals as goal
 
 pub returns-in-Idle : goal.returns-in-Idle

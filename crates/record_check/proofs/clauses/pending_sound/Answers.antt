@@ -1,6 +1,5 @@
 use Rattle.store.specs.Record.{decode, transfer_at}
 use Rattle.record_check.proofs.PendingLaws.{pending-four}
-use borrow.Author.Rules.{rules}
 use Rattle.record_check.proofs.clauses.pending_sound.Goals as goal
 
 pub returns : goal.returns

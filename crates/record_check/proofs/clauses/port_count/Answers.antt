@@ -4,7 +4,6 @@ use Prim.Native.Nat.{ℕ, ◌+◌}
 use Rattle.wire.specs.Numbers.{get}
 use Rattle.model.specs.Valid.{pending_count}
 use Rattle.store.specs.Record.{slot_at, transfer_of}
-use borrow.Author.Rules.{rules}
 use Rattle.record_check.proofs.clauses.port_count.Goals as goal
 
 pub returns : goal.returns

@@ -1,4 +1,3 @@
-use borrow.Author.Rules.{rules}
 use Rattle.record_check.proofs.clauses.port_sound.Goals as goal
 
 pub returns : goal.returns

@@ -1,5 +1,4 @@
 use Rattle.store.specs.Sound.{settings_sound}
-use borrow.Author.Rules.{rules}
 use Rattle.record_check.proofs.clauses.settings_sound.Goals as goal
 
 pub returns : goal.returns

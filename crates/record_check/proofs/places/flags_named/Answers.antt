@@ -1,5 +1,4 @@
 use Rattle.store.specs.RecordTests.{flags_named}
-use borrow.Author.Rules.{rules}
 use Rattle.record_check.proofs.places.flags_named.Goals as goal
 
 pub returns : goal.returns

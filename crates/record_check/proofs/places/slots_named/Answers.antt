@@ -1,4 +1,3 @@
-use borrow.Author.Rules.{rules}
 use Rattle.record_check.proofs.places.slots_named.Goals as goal
 
 pub returns : goal.returns

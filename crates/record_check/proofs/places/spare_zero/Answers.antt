@@ -1,5 +1,4 @@
 use mathlib.Core.Bool.{and-true}
-use borrow.Author.Rules.{rules}
 use Rattle.record_check.proofs.places.spare_zero.Goals as goal
 
 pub returns : goal.returns

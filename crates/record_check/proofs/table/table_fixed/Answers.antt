@@ -1,5 +1,4 @@
 use Rattle.store.specs.RecordTests.{table_fixed}
-use borrow.Author.Rules.{rules}
 use Rattle.record_check.proofs.table.table_fixed.Goals as goal
 
 pub returns : goal.returns

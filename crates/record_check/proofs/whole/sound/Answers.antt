@@ -2,7 +2,6 @@ use native.Mathlib.Omega.{arith}
 use borrow.Author.Tests.{ne_eqb}
 use Rattle.store.specs.Sound.{sound}
 use Rattle.record_check.proofs.SoundnessLaws.{tests-sound}
-use borrow.Author.Rules.{rules}
 use Rattle.record_check.proofs.whole.sound.Goals as goal
 
 pub returns-then-device-ne-RECORD : goal.returns-then-device-ne-RECORD

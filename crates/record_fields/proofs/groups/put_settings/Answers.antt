@@ -1,5 +1,4 @@
 use native.Mathlib.Omega.{arith}
-use borrow.Author.Rules.{rules}
 use Rattle.record_fields.proofs.groups.put_settings.Goals as goal
 
 pub returns : goal.returns

@@ -5,7 +5,6 @@ use lib.ListN.{length}
 use native.Mathlib.Omega.{arith}
 use Rattle.wire.specs.Layout.{Field, stores}
 use Rattle.record_fields.proofs.SlotsLaws.{slots-fields-four, slots-fit}
-use borrow.Author.Rules.{rules}
 use Rattle.record_fields.proofs.groups.put_slots.Goals as goal
 
 pub returns : goal.returns

@@ -1,4 +1,3 @@
-use borrow.Author.Rules.{rules}
 use Rattle.record_write.proofs.fields.put_stage.Goals as goal
 
 pub returns : goal.returns

@@ -3,7 +3,6 @@ use Rattle.record_write.proofs.FitsLaws.{groups-fit}
 use Rattle.record_write.proofs.StoredLaws.{groups-stored}
 use native.Mathlib.Omega.{arith}
 use Rattle.wire.specs.Bytes.{Bytes}
-use borrow.Author.Rules.{rules}
 use Rattle.record_write.proofs.fields.write.Goals as goal
 
 pub returns : goal.returns

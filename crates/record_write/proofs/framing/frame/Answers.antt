@@ -1,5 +1,4 @@
 use Rattle.record_write.proofs.BlankLaws.{blank-stored}
-use borrow.Author.Rules.{rules}
 use Rattle.record_write.proofs.framing.frame.Goals as goal
 
 pub returns : goal.returns

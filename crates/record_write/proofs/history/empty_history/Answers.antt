@@ -1,4 +1,3 @@
-use borrow.Author.Rules.{rules}
 use Rattle.record_write.proofs.history.empty_history.Goals as goal
 
 pub returns : goal.returns

@@ -3,7 +3,6 @@ use Rattle.model.specs.Sizes.{registers_size}
 use Rattle.model.specs.Registers.{registers_fields, registers_bytes}
 use Rattle.reply.specs.ReplyMeaning.{as_registers}
 use Rattle.wire.proofs.WithinLaws.{form-within}
-use borrow.Author.Rules.{rules}
 use Rattle.reply.proofs.registers.put_registers.Goals as goal
 
 pub returns : goal.returns

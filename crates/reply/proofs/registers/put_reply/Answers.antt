@@ -6,7 +6,6 @@ use Rattle.wire.specs.Parts.{zeros}
 use Rattle.model.specs.Sizes.{registers_size, data_size}
 use Rattle.reply.specs.ReplyMeaning.{as_registers}
 use Rattle.reply.proofs.ReplyLaws.{reply-cleared}
-use borrow.Author.Rules.{rules}
 use Rattle.reply.proofs.registers.put_reply.Goals as goal
 
 pub returns : goal.returns

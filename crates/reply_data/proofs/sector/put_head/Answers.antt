@@ -1,5 +1,4 @@
 use native.Mathlib.Nat.{add-zero}
-use borrow.Author.Rules.{rules}
 use Rattle.reply_data.proofs.sector.put_head.Goals as goal
 
 pub returns : goal.returns

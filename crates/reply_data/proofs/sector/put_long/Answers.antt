@@ -7,7 +7,6 @@ use Rattle.wire.proofs.PartsLaws.{length_part}
 use Rattle.model.specs.Sizes.{sector_size, check_size}
 use Rattle.reply.specs.ReplyMeaning.{as_registers}
 use Rattle.reply.proofs.ReplyLaws.{reply-more}
-use borrow.Author.Rules.{rules}
 use Rattle.reply_data.proofs.sector.put_long.Goals as goal
 
 pub returns : goal.returns

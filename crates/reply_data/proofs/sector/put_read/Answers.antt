@@ -2,7 +2,6 @@ use mathlib.Core.Path.{sym, ◌∙◌}
 use Rattle.model.specs.Disk.{LongSector, disk_of, sector_at}
 use Rattle.model.proofs.RequestLaws.{read-sound, read-damaged}
 use Rattle.reply.specs.ReplyMeaning.{as_registers}
-use borrow.Author.Rules.{rules}
 use Rattle.reply_data.proofs.sector.put_read.Goals as goal
 
 pub returns-then-stored-check_of : goal.returns-then-stored-check_of

@@ -5,7 +5,6 @@ use Rattle.wire.proofs.PartsLaws.{length_part}
 use Rattle.model.specs.Sizes.{sector_size}
 use Rattle.reply.specs.ReplyMeaning.{as_registers}
 use Rattle.reply.proofs.ReplyLaws.{reply-data}
-use borrow.Author.Rules.{rules}
 use Rattle.reply_data.proofs.sector.put_sector.Goals as goal
 
 pub returns : goal.returns

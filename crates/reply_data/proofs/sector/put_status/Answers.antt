@@ -3,7 +3,6 @@ use Rattle.model.specs.Status.{status_fields, status_sector}
 use Rattle.record.specs.DeviceMeaning.{as_device}
 use Rattle.reply.specs.ReplyMeaning.{as_registers}
 use Rattle.reply.proofs.ReplyLaws.{reply-form}
-use borrow.Author.Rules.{rules}
 use Rattle.reply_data.proofs.sector.put_status.Goals as goal
 
 pub returns : goal.returns

@@ -1,4 +1,3 @@
-use borrow.Author.Rules.{rules}
 use Rattle.reply_data.proofs.sector.put_temperatures.Goals as goal
 
 pub returns : goal.returns

@@ -1,6 +1,5 @@
 use Rattle.wire.proofs.ChoiceLaws.{passed, failed}
 use borrow.Author.Tests.{eq-eqb, ne_eqb}
-use borrow.Author.Rules.{rules}
 use Rattle.request.proofs.access.data_code.Goals as goal
 
 pub returns-then-not-moves : goal.returns-then-not-moves

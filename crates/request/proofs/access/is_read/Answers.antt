@@ -1,4 +1,3 @@
-use borrow.Author.Rules.{rules}
 use Rattle.request.proofs.access.is_read.Goals as goal
 
 pub returns-in-Read : goal.returns-in-Read

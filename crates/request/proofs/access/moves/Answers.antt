@@ -2,7 +2,6 @@ use mathlib.Core.Path.{◌∙◌, ap}
 use mathlib.Core.Bool.{not}
 use Rattle.record.specs.DeviceMeaning.{as_direction}
 use Rattle.request.proofs.DirectionLaws.{fill-written, long-read, long-written}
-use borrow.Author.Rules.{rules}
 use Rattle.request.proofs.access.moves.Goals as goal
 
 pub returns-in-None : goal.returns-in-None

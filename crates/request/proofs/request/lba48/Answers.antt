@@ -2,7 +2,6 @@ use Rattle.request.proofs.RequestBytes.{byte_of, lba-of}
 use native.Mathlib.Omega.{arith}
 use Rattle.wire.specs.Parts.{part}
 use Rattle.model.specs.Sizes.{mailbox_size}
-use borrow.Author.Rules.{rules}
 use Rattle.request.proofs.request.lba48.Goals as goal
 
 pub returns : goal.returns

@@ -4,7 +4,6 @@ use Rattle.model.specs.Registers.{log_ext}
 use Rattle.wire.proofs.PartsLaws.{number_of}
 use Rattle.model.specs.Sizes.{mailbox_size}
 use Rattle.request.proofs.RequestBytes.{byte_of}
-use borrow.Author.Rules.{rules}
 use Rattle.request.proofs.request.log_ext.Goals as goal
 
 pub returns-then-u16_at-ne0 : goal.returns-then-u16_at-ne0

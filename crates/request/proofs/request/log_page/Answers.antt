@@ -1,6 +1,5 @@
 use borrow.Author.Tests.{eq-eqb, ne_eqb}
 use Rattle.model.specs.Registers.{log_page}
-use borrow.Author.Rules.{rules}
 use Rattle.request.proofs.request.log_page.Goals as goal
 
 pub returns-then-count-eq1 : goal.returns-then-count-eq1

@@ -2,7 +2,6 @@ use borrow.Author.Tests.{eq-eqb, ne_eqb}
 use native.Mathlib.Omega.{arith}
 use Rattle.model.specs.Registers.{request_of}
 use Rattle.request.proofs.RequestBytes.{byte_of}
-use borrow.Author.Rules.{rules}
 use Rattle.request.proofs.request.request_of.Goals as goal
 
 pub returns-then-command : goal.returns-then-command

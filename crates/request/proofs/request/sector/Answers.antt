@@ -1,7 +1,6 @@
 use native.Mathlib.Omega.{arith}
 use Rattle.wire.proofs.PartsLaws.{number_of}
 use Rattle.model.specs.Sizes.{mailbox_size}
-use borrow.Author.Rules.{rules}
 use Rattle.request.proofs.request.sector.Goals as goal
 
 pub returns : goal.returns

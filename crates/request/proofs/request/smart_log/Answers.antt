@@ -2,7 +2,6 @@ use native.Mathlib.Omega.{arith}
 use Rattle.wire.specs.Parts.{part}
 use Rattle.model.specs.Sizes.{mailbox_size}
 use Rattle.request.proofs.RequestBytes.{byte_of, byte-first}
-use borrow.Author.Rules.{rules}
 use Rattle.request.proofs.request.smart_log.Goals as goal
 
 pub returns : goal.returns

@@ -1,6 +1,5 @@
 use borrow.Author.Tests.{eq-eqb, ne_eqb}
 use Rattle.model.specs.Registers.{smart_log}
-use borrow.Author.Rules.{rules}
 use Rattle.request.proofs.request.smart_page.Goals as goal
 
 pub returns-then-mid-ne-SMART_LBA_MID : goal.returns-then-mid-ne-SMART_LBA_MID

@@ -1,11 +1,9 @@
 -- The invariant: `dst` is what it was with the first j bytes copied.
 use native.Mathlib.Numerals.{add-one}
 use mathlib.Core.Path.{◌≡◌, refl}
-use Prim.Native.Nat.{◌-◌, ◌≤◌, zero-le}
+use Prim.Native.Nat.{zero-le}
 use native.Mathlib.Omega.{arith}
-use lib.ListN.{length, length-set}
-use lib.Seq.{sets}
-use Rattle.wire.specs.Parts.{part}
+use lib.ListN.{length-set}
 use Rattle.runs.proofs.RunLaws.{copy_more}
 use Rattle.runs.proofs.run.copy_part.Goals as goal
 

@@ -1,12 +1,9 @@
 -- What holds at each turn.
-use native.Mathlib.Numerals.{add-one}
-use mathlib.Core.Path.{◌≡◌, refl}
-use Prim.Native.Nat.{◌-◌, ◌≤◌, zero-le}
-use native.Mathlib.Omega.{arith}
-use lib.ListN.{length, length-set}
+use mathlib.Core.Path.{◌≡◌}
+use Prim.Native.Nat.{◌-◌, ◌≤◌}
+use lib.ListN.{length}
 use lib.Seq.{sets}
 use Rattle.wire.specs.Parts.{part}
-use Rattle.runs.proofs.RunLaws.{copy_more}
 use Rattle.runs.proofs.run.copy_part.Given as goal
 
 abbrev pub invariant-loop-j : goal.invariant-loop-j

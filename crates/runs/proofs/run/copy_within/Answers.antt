@@ -2,10 +2,9 @@
 use native.Mathlib.Numerals.{add-one}
 use Rattle.wire.proofs.NumbersLaws.{get_or_sets_before}
 use mathlib.Core.Path.{◌≡◌, refl}
-use Prim.Native.Nat.{◌+◌, ◌-◌, ◌≤◌, zero-le}
+use Prim.Native.Nat.{◌+◌, zero-le}
 use native.Mathlib.Omega.{arith}
-use lib.ListN.{length, length-set}
-use lib.Seq.{sets}
+use lib.ListN.{length-set}
 use Rattle.wire.specs.Parts.{part}
 use Rattle.runs.proofs.RunLaws.{copy_more}
 use Rattle.runs.proofs.run.copy_within.Goals as goal

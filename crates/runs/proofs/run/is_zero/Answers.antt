@@ -1,9 +1,8 @@
 -- The invariant: `all` is true if the first j bytes are 0, and false otherwise.
 use native.Mathlib.Numerals.{add-one}
 use mathlib.Core.Path.{◌≡◌, refl}
-use Prim.Native.Nat.{◌-◌, ◌≤◌, zero-le}
+use Prim.Native.Nat.{zero-le}
 use native.Mathlib.Omega.{arith}
-use Rattle.wire.specs.Parts.{part}
 use Rattle.wire.specs.Bytes.{all_zero}
 use Rattle.runs.proofs.RunLaws.{all_zero-more}
 use Rattle.runs.proofs.run.is_zero.Goals as goal

@@ -1,11 +1,8 @@
 -- What holds at each turn.
-use native.Mathlib.Numerals.{add-one}
-use mathlib.Core.Path.{◌≡◌, refl}
-use Prim.Native.Nat.{◌-◌, ◌≤◌, zero-le}
-use native.Mathlib.Omega.{arith}
+use mathlib.Core.Path.{◌≡◌}
+use Prim.Native.Nat.{◌-◌, ◌≤◌}
 use Rattle.wire.specs.Parts.{part}
 use Rattle.wire.specs.Bytes.{all_zero}
-use Rattle.runs.proofs.RunLaws.{all_zero-more}
 use Rattle.runs.proofs.run.is_zero.Given as goal
 
 abbrev pub invariant-loop-j : goal.invariant-loop-j

@@ -1,10 +1,8 @@
 -- The invariant: `s` is what it was with the two bytes written k times.
 use mathlib.Core.Path.{◌≡◌, refl}
-use Prim.Native.Nat.{◌+◌, ◌*◌, ◌-◌, ◌≤◌, zero-le}
+use Prim.Native.Nat.{zero-le}
 use native.Mathlib.Numerals.{add-one}
 use native.Mathlib.Omega.{arith}
-use lib.ListN.{length}
-use lib.Seq.{sets}
 use Rattle.wire.specs.Numbers.{le, put}
 use Rattle.wire.specs.Parts.{repeated}
 use Rattle.wire.proofs.NumbersLaws.{length-le, length-put}

@@ -1,14 +1,10 @@
 -- What holds at each turn.
-use mathlib.Core.Path.{◌≡◌, refl}
-use Prim.Native.Nat.{◌+◌, ◌*◌, ◌-◌, ◌≤◌, zero-le}
-use native.Mathlib.Numerals.{add-one}
-use native.Mathlib.Omega.{arith}
+use mathlib.Core.Path.{◌≡◌}
+use Prim.Native.Nat.{◌-◌, ◌≤◌}
 use lib.ListN.{length}
 use lib.Seq.{sets}
-use Rattle.wire.specs.Numbers.{le, put}
+use Rattle.wire.specs.Numbers.{le}
 use Rattle.wire.specs.Parts.{repeated}
-use Rattle.wire.proofs.NumbersLaws.{length-le, length-put}
-use Rattle.wire.proofs.PartsLaws.{repeat-more}
 use Rattle.runs.proofs.run.repeat_u16.Given as goal
 
 abbrev pub invariant-loop-k : goal.invariant-loop-k

@@ -1,10 +1,9 @@
 -- The invariant: `s` is what it was with the four bytes written k times.
 use mathlib.Core.Path.{◌≡◌, refl}
-use Prim.Native.Nat.{◌+◌, ◌*◌, ◌-◌, ◌≤◌, zero-le}
+use Prim.Native.Nat.{◌+◌, ◌*◌, zero-le}
 use native.Mathlib.Numerals.{add-one}
 use native.Mathlib.Omega.{arith}
 use lib.ListN.{length}
-use lib.Seq.{sets}
 use Rattle.wire.specs.Parts.{part, repeated}
 use Rattle.wire.specs.Bytes.{Bytes}
 use Rattle.wire.proofs.NumbersLaws.{length-put}

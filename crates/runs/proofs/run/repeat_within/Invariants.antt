@@ -1,15 +1,9 @@
 -- What holds at each turn.
-use mathlib.Core.Path.{◌≡◌, refl}
-use Prim.Native.Nat.{◌+◌, ◌*◌, ◌-◌, ◌≤◌, zero-le}
-use native.Mathlib.Numerals.{add-one}
-use native.Mathlib.Omega.{arith}
+use mathlib.Core.Path.{◌≡◌}
+use Prim.Native.Nat.{◌-◌, ◌≤◌}
 use lib.ListN.{length}
 use lib.Seq.{sets}
 use Rattle.wire.specs.Parts.{part, repeated}
-use Rattle.wire.specs.Bytes.{Bytes}
-use Rattle.wire.proofs.NumbersLaws.{length-put}
-use Rattle.wire.proofs.PartsLaws.{length_part, repeat-more}
-use Rattle.runs.proofs.RunLaws.{put-read}
 use Rattle.runs.proofs.run.repeat_within.Given as goal
 
 abbrev pub invariant-loop-k : goal.invariant-loop-k

@@ -1,9 +1,8 @@
 -- The invariant: `all` is true if the first j bytes are the same, and false otherwise.
 use native.Mathlib.Numerals.{add-one}
 use mathlib.Core.Path.{◌≡◌, refl}
-use Prim.Native.Nat.{◌-◌, ◌≤◌, zero-le}
+use Prim.Native.Nat.{zero-le}
 use native.Mathlib.Omega.{arith}
-use Rattle.wire.specs.Parts.{part}
 use Rattle.wire.specs.Bytes.{same}
 use Rattle.runs.proofs.RunLaws.{same_more}
 use Rattle.runs.proofs.run.same_part.Goals as goal

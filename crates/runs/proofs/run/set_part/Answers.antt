@@ -1,10 +1,9 @@
 -- The invariant: `s` is what it was with the first j bytes set.
 use native.Mathlib.Numerals.{add-one}
 use mathlib.Core.Path.{◌≡◌, refl}
-use Prim.Native.Nat.{◌-◌, ◌≤◌, zero-le}
+use Prim.Native.Nat.{zero-le}
 use native.Mathlib.Omega.{arith}
-use lib.ListN.{length, length-set, replicate}
-use lib.Seq.{sets}
+use lib.ListN.{length-set}
 use Rattle.runs.proofs.RunLaws.{replicate_more}
 use Rattle.runs.proofs.run.set_part.Goals as goal
 

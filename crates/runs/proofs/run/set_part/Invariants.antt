@@ -1,11 +1,8 @@
 -- What holds at each turn.
-use native.Mathlib.Numerals.{add-one}
-use mathlib.Core.Path.{◌≡◌, refl}
-use Prim.Native.Nat.{◌-◌, ◌≤◌, zero-le}
-use native.Mathlib.Omega.{arith}
-use lib.ListN.{length, length-set, replicate}
+use mathlib.Core.Path.{◌≡◌}
+use Prim.Native.Nat.{◌-◌, ◌≤◌}
+use lib.ListN.{length, replicate}
 use lib.Seq.{sets}
-use Rattle.runs.proofs.RunLaws.{replicate_more}
 use Rattle.runs.proofs.run.set_part.Given as goal
 
 abbrev pub invariant-loop-j : goal.invariant-loop-j

@@ -4,7 +4,6 @@ use Prim.Native.Nat.{ℕ, ◌/◌, ◌%◌}
 use native.Mathlib.Omega.{arith}
 use lib.Seq.{sets}
 use lib.Bits.{bit_xor}
-use borrow.Author.Rules.{rules}
 use Rattle.wire.specs.Parts.{part}
 use Rattle.sector_check.specs.Check.{flip}
 use Rattle.sector_check.specs.Repair.{difference}

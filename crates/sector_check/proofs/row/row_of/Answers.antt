@@ -1,5 +1,4 @@
 use mathlib.Core.Path.{sym}
-use borrow.Author.Rules.{rules}
 use Rattle.sector_check.proofs.RowLaws.{row-all, row-ones, row-twos, row-fours}
 use Rattle.sector_check.proofs.row.row_of.Goals as goal
 

@@ -1,7 +1,7 @@
 -- The invariant: what the first k rows give.
 use native.Mathlib.Numerals.{add-one}
 use mathlib.Core.Path.{◌≡◌, refl}
-use Prim.Native.Nat.{◌+◌, ◌*◌, ◌-◌, ◌≤◌, zero-le}
+use Prim.Native.Nat.{◌+◌, ◌*◌, zero-le}
 use native.Mathlib.Omega.{arith}
 use Rattle.sector_check.specs.Xor.{xor_to}
 use Rattle.sector_check.specs.Word.{parity}

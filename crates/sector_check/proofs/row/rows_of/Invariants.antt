@@ -1,12 +1,9 @@
 -- What holds at each turn.
-use native.Mathlib.Numerals.{add-one}
-use mathlib.Core.Path.{◌≡◌, refl}
-use Prim.Native.Nat.{◌+◌, ◌*◌, ◌-◌, ◌≤◌, zero-le}
-use native.Mathlib.Omega.{arith}
+use mathlib.Core.Path.{◌≡◌}
+use Prim.Native.Nat.{◌+◌, ◌*◌, ◌-◌, ◌≤◌}
 use Rattle.sector_check.specs.Xor.{xor_to}
 use Rattle.sector_check.specs.Word.{parity}
-use Rattle.sector_check.specs.Row.{row_of, picked, all_rows, picked_rows, odd_rows}
-use Rattle.sector_check.proofs.XorLaws.{xor_to-more}
+use Rattle.sector_check.specs.Row.{row_of, picked}
 use Rattle.sector_check.proofs.row.rows_of.Given as goal
 
 abbrev pub invariant-loop-k : goal.invariant-loop-k

@@ -1,7 +1,6 @@
 use mathlib.Core.Path.{◌≡◌, sym}
 use native.Mathlib.Omega.{arith}
 use lib.Bits.{bit_xor}
-use borrow.Author.Rules.{rules}
 use Rattle.wire.specs.Parts.{part}
 use Rattle.sector_check.specs.Check.{check_of}
 use Rattle.sector_check.proofs.RowLaws.{check-rows}

@@ -1,4 +1,3 @@
-use borrow.Author.Rules.{rules}
 use Rattle.sector_check.proofs.sector.column_of.Goals as goal
 
 pub returns : goal.returns

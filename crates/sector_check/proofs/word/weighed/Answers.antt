@@ -3,7 +3,6 @@ use native.Mathlib.Omega.{arith}
 use borrow.Author.Tests.{eqb-true, eqb-false}
 use Rattle.sector_check.specs.Word.{parity}
 use Rattle.sector_check.proofs.DigitLaws.{parity-lt}
-use borrow.Author.Rules.{rules}
 use Rattle.sector_check.proofs.word.weighed.Goals as goal
 
 pub returns-then-odd : goal.returns-then-odd

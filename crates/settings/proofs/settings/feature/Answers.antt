@@ -1,4 +1,3 @@
-use borrow.Author.Rules.{rules}
 use Rattle.settings.proofs.settings.feature.Goals as goal
 
 pub returns-in-WriteCache : goal.returns-in-WriteCache

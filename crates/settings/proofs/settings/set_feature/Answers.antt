@@ -5,7 +5,6 @@ use Rattle.model.specs.Temperature.{history_emptied}
 use Rattle.model.specs.Decide.{with_feature}
 use Rattle.record.specs.DeviceMeaning.{as_device, as_feature_name}
 use Rattle.settings.proofs.SettingCases.{interval-emptied, other-kept}
-use borrow.Author.Rules.{rules}
 use Rattle.settings.proofs.settings.set_feature.Goals as goal
 
 pub returns-then-is_interval : goal.returns-then-is_interval

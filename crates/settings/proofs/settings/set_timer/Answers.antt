@@ -2,7 +2,6 @@ use mathlib.Core.Path.{refl, ap}
 use Rattle.model.specs.Device.{Settings}
 use Rattle.model.specs.Update.{with_settings}
 use Rattle.record.specs.DeviceMeaning.{as_device}
-use borrow.Author.Rules.{rules}
 use Rattle.settings.proofs.settings.set_timer.Goals as goal
 
 pub returns : goal.returns

@@ -1,7 +1,6 @@
 use mathlib.Core.Path.{sym, ◌∙◌}
 use Rattle.record.specs.DeviceMeaning.{as_feature, as_settings, as_feature_name}
 use Rattle.settings.proofs.SettingCases.{cache-set, interval-set, reordering-set}
-use borrow.Author.Rules.{rules}
 use Rattle.settings.proofs.settings.with_feature.Goals as goal
 
 pub returns-then-is_cache : goal.returns-then-is_cache

@@ -1,7 +1,6 @@
 use mathlib.Core.Path.{sym, ◌∙◌}
 use Rattle.record.specs.DeviceMeaning.{as_settings, as_direction}
 use Rattle.settings.proofs.SettingCases.{read-timer, write-timer}
-use borrow.Author.Rules.{rules}
 use Rattle.settings.proofs.settings.with_timer.Goals as goal
 
 pub returns-then-is_read : goal.returns-then-is_read

@@ -1,6 +1,5 @@
 use Rattle.record.specs.DeviceMeaning.{as_device}
 use Rattle.status_read.proofs.StatusLaws.{reply-locked, reply-unlocked}
-use borrow.Author.Rules.{rules}
 use Rattle.status_read.proofs.status.put_status_reply.Goals as goal
 
 pub returns-then-d : goal.returns-then-d

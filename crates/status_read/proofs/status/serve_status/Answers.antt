@@ -6,7 +6,6 @@ use Rattle.store.proofs.SoundLaws.{sound-parts}
 use Rattle.store.proofs.StageLaws.{sound-stage}
 use Rattle.record.specs.DeviceMeaning.{history_of}
 use Rattle.status_read.specs.StatusReply.{status_reply}
-use borrow.Author.Rules.{rules}
 use Rattle.status_read.proofs.status.serve_status.Goals as goal
 
 pub decode-d-requires : goal.decode-d-requires

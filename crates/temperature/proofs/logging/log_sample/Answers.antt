@@ -1,5 +1,4 @@
 use Rattle.temperature.proofs.SampleLaws.{next-within, log-later, log-now}
-use borrow.Author.Rules.{rules}
 use mathlib.Core.Path.{ap}
 use mathlib.Core.Bool.{not}
 use Rattle.temperature.proofs.logging.log_sample.Goals as goal

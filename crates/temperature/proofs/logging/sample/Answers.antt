@@ -2,7 +2,6 @@ use Rattle.store.proofs.SoundLaws.{sound-parts}
 use Rattle.record_write.proofs.FramedLaws.{sound-framed}
 use Rattle.temperature.proofs.SampleLaws.{sample-ready, log-framed, sample-written}
 use native.Mathlib.Omega.{arith}
-use borrow.Author.Rules.{rules}
 use Rattle.temperature.proofs.logging.sample.Goals as goal
 
 pub decode-d-requires : goal.decode-d-requires

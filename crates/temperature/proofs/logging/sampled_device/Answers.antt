@@ -1,5 +1,4 @@
 use Rattle.temperature.proofs.SampleLaws.{sampled-says}
-use borrow.Author.Rules.{rules}
 use Rattle.temperature.proofs.logging.sampled_device.Goals as goal
 
 pub returns : goal.returns

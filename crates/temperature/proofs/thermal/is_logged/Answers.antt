@@ -1,5 +1,4 @@
 use Rattle.temperature.proofs.ThermalLaws.{logged-test}
-use borrow.Author.Rules.{rules}
 use Rattle.temperature.proofs.thermal.is_logged.Goals as goal
 
 pub returns : goal.returns

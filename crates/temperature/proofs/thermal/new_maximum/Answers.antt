@@ -1,7 +1,6 @@
 use borrow.Author.Tests.{eq-eqb, ne_eqb}
 use Rattle.model.specs.Temperature.{new_maximum}
 use Rattle.temperature.proofs.ThermalLaws.{maximum-old, maximum-sample}
-use borrow.Author.Rules.{rules}
 use Rattle.temperature.proofs.thermal.new_maximum.Goals as goal
 
 pub returns-then-sample-eq-MISSING : goal.returns-then-sample-eq-MISSING

@@ -1,5 +1,4 @@
 use Rattle.temperature.proofs.ThermalLaws.{index-last, index-more}
-use borrow.Author.Rules.{rules}
 use Rattle.temperature.proofs.thermal.next_index.Goals as goal
 
 pub returns-then-index-eq-LAST_INDEX : goal.returns-then-index-eq-LAST_INDEX

@@ -2,7 +2,6 @@ use mathlib.Core.Path.{sym, ◌∙◌}
 use borrow.Author.Tests.{not-true, not-false}
 use native.Mathlib.Omega.{arith}
 use Rattle.temperature.proofs.ThermalLaws.{sampled-logged, sampled-counted}
-use borrow.Author.Rules.{rules}
 use Rattle.temperature.proofs.thermal.sampled_thermal.Goals as goal
 
 pub returns-then-is_logged : goal.returns-then-is_logged

@@ -1,5 +1,4 @@
 use borrow.Author.Tests.{lt-ltb, le-ltb}
-use borrow.Author.Rules.{rules}
 use Rattle.temperature.proofs.thermal.shifted.Goals as goal
 
 pub returns-then-b-lt-SIGN : goal.returns-then-b-lt-SIGN

@@ -1,5 +1,4 @@
 use Rattle.timing.specs.Command.{command_at}
-use borrow.Author.Rules.{rules}
 use Rattle.timing.proofs.command.command_at.Goals as goal
 
 pub returns : goal.returns

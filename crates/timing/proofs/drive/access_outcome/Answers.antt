@@ -1,4 +1,3 @@
-use borrow.Author.Rules.{rules}
 use Rattle.timing.proofs.drive.access_outcome.Goals as goal
 
 pub returns-then-is_expired : goal.returns-then-is_expired

@@ -1,4 +1,3 @@
-use borrow.Author.Rules.{rules}
 use Rattle.timing.proofs.drive.at_end.Goals as goal
 
 pub returns-in-SetLimit : goal.returns-in-SetLimit

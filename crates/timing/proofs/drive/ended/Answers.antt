@@ -1,5 +1,4 @@
 use mathlib.Core.Path.{refl}
-use borrow.Author.Rules.{rules}
 use Rattle.timing.proofs.drive.ended.Goals as goal
 
 pub returns-in-SetLimit : goal.returns-in-SetLimit

@@ -1,4 +1,3 @@
-use borrow.Author.Rules.{rules}
 use Rattle.timing.proofs.drive.set_mode.Goals as goal
 
 pub returns-then-is_disabled-count : goal.returns-then-is_disabled-count

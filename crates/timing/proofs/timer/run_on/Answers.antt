@@ -2,7 +2,6 @@ use mathlib.Core.Path.{sym}
 use Prim.Native.Nat.{◌+◌}
 use native.Mathlib.Omega.{arith}
 use Rattle.timing.proofs.TimerLaws.{still-runs, has-expired}
-use borrow.Author.Rules.{rules}
 use Rattle.timing.proofs.timer.run_on.Goals as goal
 
 pub returns-then-limit-run : goal.returns-then-limit-run

@@ -1,14 +1,13 @@
 use mathlib.Core.Path.{refl}
 use native.Mathlib.Omega.{arith}
 use borrow.Author.Tests.{eq-eqb, ne_eqb}
-use borrow.Author.Rules.{rules}
 use Rattle.trace_lines.proofs.lines.put_cut.Goals as goal
 
 pub returns-then-stray-eq0 : goal.returns-then-stray-eq0
 returns-then-stray-eq0 c = rw (eq-eqb _ _ c.if-stray-eq0.true) record {
-      upper_bound = omega arith;
-      wrote = record { place = omega arith; line = refl };
-    }
+  upper_bound = omega arith;
+  wrote = record { place = omega arith; line = refl };
+}
 
 pub returns : goal.returns
 returns c =

@@ -1,4 +1,3 @@
-use borrow.Author.Rules.{rules}
 use Rattle.trace_lines.proofs.lines.put_outcome.Goals as goal
 
 pub returns-in-Done : goal.returns-in-Done

@@ -1,10 +1,9 @@
 -- The invariant: the first k records are printed.
 use mathlib.Core.Path.{◌≡◌, refl}
-use Prim.Native.Nat.{◌*◌, ◌-◌, ◌/◌, ◌≤◌, zero-le}
+use Prim.Native.Nat.{◌/◌, zero-le}
 use native.Mathlib.Omega.{arith}
 use lib.ListN.{length}
-use borrow.Author.Rules.{rules}
-use Rattle.trace_lines.proofs.LinesLaws.{PrintedFirst, none-printed, one-more-printed, length-printed}
+use Rattle.trace_lines.proofs.LinesLaws.{none-printed, one-more-printed, length-printed}
 use Rattle.trace_lines.proofs.lines.put_records.Goals as goal
 
 pub loop-k-init : goal.loop-k-init

@@ -1,10 +1,8 @@
 -- What holds at each turn.
-use mathlib.Core.Path.{◌≡◌, refl}
-use Prim.Native.Nat.{◌*◌, ◌-◌, ◌/◌, ◌≤◌, zero-le}
-use native.Mathlib.Omega.{arith}
+use mathlib.Core.Path.{◌≡◌}
+use Prim.Native.Nat.{◌*◌, ◌-◌, ◌≤◌}
 use lib.ListN.{length}
-use borrow.Author.Rules.{rules}
-use Rattle.trace_lines.proofs.LinesLaws.{PrintedFirst, none-printed, one-more-printed, length-printed}
+use Rattle.trace_lines.proofs.LinesLaws.{PrintedFirst}
 use Rattle.trace_lines.proofs.lines.put_records.Given as goal
 
 abbrev pub invariant-loop-k : goal.invariant-loop-k

@@ -1,7 +1,6 @@
 use native.Mathlib.Omega.{arith}
 use Rattle.console.proofs.WroteLaws.{wrote_then, wrote-begins}
 use Rattle.trace_lines.specs.Lines.{printed}
-use borrow.Author.Rules.{rules}
 use Rattle.trace_lines.proofs.lines.put_trace.Goals as goal
 
 pub returns : goal.returns

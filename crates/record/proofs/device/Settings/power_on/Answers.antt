@@ -1,4 +1,3 @@
-use borrow.Author.Rules.{rules}
 use Rattle.record.proofs.device.Settings.power_on.Goals as goal
 
 pub returns : goal.returns

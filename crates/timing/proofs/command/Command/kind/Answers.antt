@@ -1,6 +1,5 @@
 use borrow.Author.Tests.{eq-eqb, ne_eqb}
 use Rattle.timing.specs.Command.{kind_of}
-use borrow.Author.Rules.{rules}
 use Rattle.timing.proofs.command.Command.kind.Goals as goal
 
 pub returns-then-is_access : goal.returns-then-is_access

@@ -1,5 +1,4 @@
 use Rattle.timing.specs.Drive.{traced}
-use borrow.Author.Rules.{rules}
 use Rattle.timing.proofs.drive.Drive.trace.Goals as goal
 
 pub returns : goal.returns

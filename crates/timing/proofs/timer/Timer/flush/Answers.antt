@@ -1,5 +1,4 @@
 use mathlib.Core.Path.{refl}
-use borrow.Author.Rules.{rules}
 use Rattle.timing.proofs.timer.Timer.flush.Goals as goal
 
 pub returns-in-Running : goal.returns-in-Running

@@ -1,6 +1,5 @@
 use mathlib.Core.Path.{refl}
 use borrow.Author.Tests.{eq-eqb, ne_eqb}
-use borrow.Author.Rules.{rules}
 use Rattle.timing.proofs.timer.Timer.set.Goals as goal
 
 pub returns-then-count-eq0 : goal.returns-then-count-eq0

@@ -1,5 +1,4 @@
 use mathlib.Core.Path.{refl}
-use borrow.Author.Rules.{rules}
 use Rattle.timing.proofs.timer.Timer.start.Goals as goal
 
 pub returns-in-Armed : goal.returns-in-Armed
