@@ -1,17 +1,14 @@
 -- The repair of a sector in its place is the model's repair: the report, the record and the sectors.
-use mathlib.Core.Path.{◌≡◌, refl, sym, ap, ◌∙◌}
+use mathlib.Core.Path.{◌≡◌, refl, ap, ◌∙◌}
 use mathlib.Core.Bool.{Bool, true, false}
 use mathlib.Core.List.{List}
 use Prim.Native.Nat.{ℕ, ◌+◌, ◌*◌, ◌≤◌}
 use lib.ListN.{length}
 use lib.Seq.{sets}
 use lib.Dec.{eqb}
-use Rattle.wire.specs.Choice.{if◌then◌else◌}
-use Rattle.wire.specs.Parts.{part}
-use Rattle.sector_check.specs.Repair.{report_of, repaired_sector}
+use Rattle.sector_check.specs.Repair.{repaired_sector}
 use Rattle.sector_check.proofs.FlipLaws.{sets-own}
 use Rattle.model.specs.Sizes.{sector_size}
-use Rattle.model.specs.Device.{Device}
 use Rattle.model.specs.Disk.{Disk, LongSector, sector_at}
 use Rattle.model.specs.Repair.{repair_report, repaired_device, repaired_disk, repair}
 use Rattle.record.specs.declared.device as code

@@ -1,11 +1,11 @@
 -- Laws of tests and of lists of checks.
 use mathlib.Core.Path.{◌≡◌, refl, sym, ap, ◌∙◌}
-use mathlib.Core.Bool.{Bool, true, false, ◌&&◌}
+use mathlib.Core.Bool.{Bool, true, false, ◌&&◌, not}
 use Prim.Native.Nat.{ℕ, zero, suc, ◌≤◌, ◌<◌}
 use native.Mathlib.Omega.{arith}
 use native.Mathlib.Decide.{dec_lt}
 use mathlib.Core.List.{List, [], ◌∷◌, ◌++◌}
-use borrow.Author.Tests.{leb-true, le-leb}
+use borrow.Author.Tests.{not-true, not-false, leb-true, le-leb}
 use lib.Dec.{leb}
 use Rattle.wire.specs.Choice.{if◌then◌else◌, bit, between, Check, first_failed, if_passed, Guarded, attempt}
 
@@ -20,12 +20,16 @@ and_right false b h = cc
 pub and_both : (a b : Bool) → a ≡ true → b ≡ true → (a && b) ≡ true
 and_both a b p q = rw (p, q)
 
--- what the callee ensures about a test, once the test is known to have passed, or failed
-pub passed : {t b : Bool} → t ≡ b → t ≡ true → b ≡ true
-passed e h = sym e ∙ h
+-- what the callee ensures about a test whose outcome is known
+pub told : {t b v : Bool} → t ≡ b → t ≡ v → b ≡ v
+told e h = sym e ∙ h
 
-pub failed : {t b : Bool} → t ≡ b → t ≡ false → b ≡ false
-failed e h = sym e ∙ h
+-- .. after `if !test() { return .. }` was not taken, and after it was taken
+pub passed : {t b : Bool} → t ≡ b → not t ≡ false → b ≡ true
+passed {t} e h = told e (not-false t h)
+
+pub failed : {t b : Bool} → t ≡ b → not t ≡ true → b ≡ false
+failed {t} e h = told e (not-true t h)
 
 -- && groups to the left: a && b && c is (a && b) && c
 pub and-three : (a b c : Bool) → (a && b && c) ≡ true → (a ≡ true) × (b ≡ true) × (c ≡ true)

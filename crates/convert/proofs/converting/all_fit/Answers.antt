@@ -1,11 +1,9 @@
 -- The invariant: `all` is true if the timers of the first k entries fit, and false otherwise.
 use native.Mathlib.Numerals.{add-one}
 use mathlib.Core.Path.{◌≡◌, refl}
-use Prim.Native.Nat.{◌-◌, ◌≤◌, zero-le}
+use Prim.Native.Nat.{zero-le}
 use native.Mathlib.Omega.{arith}
-use Rattle.model.specs.Image.{every}
-use Rattle.convert.proofs.ConvertingLaws.{fits, fits_more}
-use borrow.Author.Rules.{rules}
+use Rattle.convert.proofs.ConvertingLaws.{fits_more}
 use Rattle.convert.proofs.converting.all_fit.Goals as goal
 
 pub loop-k-init : goal.loop-k-init

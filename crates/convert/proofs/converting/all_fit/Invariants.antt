@@ -1,11 +1,8 @@
 -- What holds at each turn.
-use native.Mathlib.Numerals.{add-one}
-use mathlib.Core.Path.{◌≡◌, refl}
-use Prim.Native.Nat.{◌-◌, ◌≤◌, zero-le}
-use native.Mathlib.Omega.{arith}
+use mathlib.Core.Path.{◌≡◌}
+use Prim.Native.Nat.{◌-◌, ◌≤◌}
 use Rattle.model.specs.Image.{every}
-use Rattle.convert.proofs.ConvertingLaws.{fits, fits_more}
-use borrow.Author.Rules.{rules}
+use Rattle.convert.proofs.ConvertingLaws.{fits}
 use Rattle.convert.proofs.converting.all_fit.Given as goal
 
 abbrev pub invariant-loop-k : goal.invariant-loop-k

@@ -5,7 +5,6 @@ use borrow.Author.Tests.{leb-true}
 use Rattle.wire.proofs.ChoiceLaws.{all_pass, attempt-refused, attempt-done}
 use Rattle.model.specs.Convert.{convert_checks}
 use Rattle.store.specs.Entries.{convert_entry, convert_bytes}
-use borrow.Author.Rules.{rules}
 use Rattle.convert.proofs.converting.convert.Goals as goal
 
 pub returns-then-refused-ne-DONE : goal.returns-then-refused-ne-DONE

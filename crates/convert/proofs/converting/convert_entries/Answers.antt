@@ -1,11 +1,10 @@
 -- The invariant: the first k entries are converted.
 use native.Mathlib.Numerals.{add-one}
 use mathlib.Core.Path.{◌≡◌, refl, ap, ◌∙◌}
-use Prim.Native.Nat.{◌-◌, ◌*◌, ◌≤◌, zero-le}
+use Prim.Native.Nat.{◌*◌, zero-le}
 use native.Mathlib.Omega.{arith}
 use lib.ListN.{length}
 use Rattle.model.specs.Sizes.{entry_size}
-use Rattle.model.specs.Convert.{converted}
 use Rattle.convert.proofs.ConvertingLaws.{length-entry}
 use Rattle.convert.proofs.converting.convert_entries.Goals as goal
 
@@ -17,7 +16,6 @@ loop-k-preserved c =
     let after = c.convert_entry.ensures in
     let length-after = length-entry c.args.form (entry_size * c.loop-k.k) c.loop-k.image in
     (omega arith, ap length after ∙ length-after ∙ c.loop-k.invariant.1, rw (after, c.loop-k.invariant.2, add-one))
-
 
 pub returns : goal.returns
 returns c =

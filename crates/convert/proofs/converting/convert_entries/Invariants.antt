@@ -1,12 +1,8 @@
 -- What holds at each turn.
-use native.Mathlib.Numerals.{add-one}
-use mathlib.Core.Path.{◌≡◌, refl, ap, ◌∙◌}
-use Prim.Native.Nat.{◌-◌, ◌*◌, ◌≤◌, zero-le}
-use native.Mathlib.Omega.{arith}
+use mathlib.Core.Path.{◌≡◌}
+use Prim.Native.Nat.{◌-◌, ◌≤◌}
 use lib.ListN.{length}
-use Rattle.model.specs.Sizes.{entry_size}
 use Rattle.model.specs.Convert.{converted}
-use Rattle.convert.proofs.ConvertingLaws.{length-entry}
 use Rattle.convert.proofs.converting.convert_entries.Given as goal
 
 abbrev pub invariant-loop-k : goal.invariant-loop-k

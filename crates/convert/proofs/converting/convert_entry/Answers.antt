@@ -1,4 +1,3 @@
-use borrow.Author.Rules.{rules}
 use Rattle.convert.proofs.converting.convert_entry.Goals as goal
 
 pub returns : goal.returns

@@ -1,7 +1,6 @@
 use mathlib.Core.Bool.{◌&&◌, ◌||◌}
 use lib.Dec.{eqb}
 use Rattle.model.specs.Sizes.{power_on_timer}
-use borrow.Author.Rules.{rules}
 use Rattle.convert.proofs.converting.fits_form.Goals as goal
 
 pub returns : goal.returns

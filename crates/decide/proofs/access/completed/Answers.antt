@@ -3,7 +3,6 @@ use Rattle.model.specs.Registers.{good}
 use Rattle.model.specs.Decide.{nothing, sending, temperatures}
 use Rattle.device_update.proofs.ChangeLaws.{unchanged}
 use Rattle.decision.proofs.DecidedLaws.{says-decided}
-use borrow.Author.Rules.{rules}
 use Rattle.decide.proofs.access.completed.Goals as goal
 
 pub returns-in-None : goal.returns-in-None

@@ -1,6 +1,5 @@
 use Rattle.record.specs.DeviceMeaning.{as_transfer, as_direction}
 use Rattle.decide.proofs.AccessLaws.{data-refused, data-completed}
-use borrow.Author.Rules.{rules}
 use Rattle.decide.proofs.access.decide_data.Goals as goal
 
 pub returns-then-code-ne0 : goal.returns-then-code-ne0

@@ -1,6 +1,5 @@
 use Rattle.record.specs.DeviceMeaning.{as_direction}
 use Rattle.decide.proofs.AccessLaws.{access-refused, access-done}
-use borrow.Author.Rules.{rules}
 use Rattle.decide.proofs.access.decide_sector.Goals as goal
 
 pub returns-then-error-ne0 : goal.returns-then-error-ne0

@@ -2,7 +2,6 @@ use mathlib.Core.Path.{refl}
 use Rattle.model.specs.Registers.{good}
 use Rattle.device_update.proofs.ChangeLaws.{unchanged}
 use Rattle.decision.proofs.DecidedLaws.{says-decided}
-use borrow.Author.Rules.{rules}
 use Rattle.decide.proofs.access.moved.Goals as goal
 
 pub returns-in-Read : goal.returns-in-Read

@@ -1,4 +1,3 @@
-use borrow.Author.Rules.{rules}
 use Rattle.decide.proofs.choice.decide.Goals as goal
 
 pub returns-in-Key : goal.returns-in-Key

@@ -2,7 +2,6 @@ use Rattle.model.specs.Registers.{refused}
 use Rattle.model.specs.Fill.{interrupt}
 use Rattle.model.specs.Decide.{nothing}
 use Rattle.decision.proofs.DecidedLaws.{says-decided}
-use borrow.Author.Rules.{rules}
 use Rattle.decide.proofs.choice.decide_other.Goals as goal
 
 pub returns : goal.returns

@@ -1,5 +1,4 @@
 use Rattle.decide.proofs.DecideKey.{key-refused, key-accepted}
-use borrow.Author.Rules.{rules}
 use Rattle.decide.proofs.key_sector.decide_key.Goals as goal
 
 pub returns-in_default : goal.returns-in_default

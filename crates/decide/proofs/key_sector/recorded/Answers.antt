@@ -2,7 +2,6 @@ use Rattle.model.specs.Update.{with_key}
 use Rattle.model.specs.Fill.{interrupt}
 use Rattle.device_update.proofs.ChangeLaws.{changed_then}
 use Rattle.decide.proofs.DecideKey.{words-read}
-use borrow.Author.Rules.{rules}
 use Rattle.decide.proofs.key_sector.recorded.Goals as goal
 
 pub returns : goal.returns

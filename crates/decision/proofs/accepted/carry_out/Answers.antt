@@ -7,7 +7,6 @@ use Rattle.model.specs.Decide.{nothing, carry_out}
 use Rattle.device_update.specs.Change.{Changed}
 use Rattle.device_update.proofs.ChangeLaws.{unchanged}
 use Rattle.decision.proofs.DecidedLaws.{says-decided}
-use borrow.Author.Rules.{rules}
 use Rattle.decision.proofs.accepted.carry_out.Goals as goal
 
 pub returns-in-AccessLong : goal.returns-in-AccessLong

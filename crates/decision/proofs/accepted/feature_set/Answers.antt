@@ -1,7 +1,6 @@
 use mathlib.Core.Path.{refl}
 use Rattle.record.specs.DeviceMeaning.{as_feature_name}
 use Rattle.decision.proofs.FeatureLaws.{feature-decided}
-use borrow.Author.Rules.{rules}
 use Rattle.decision.proofs.accepted.feature_set.Goals as goal
 
 pub returns : goal.returns

@@ -1,7 +1,6 @@
 use mathlib.Core.Path.{ap, ◌∙◌}
 use Rattle.wire.specs.Choice.{bit}
 use Rattle.model.specs.Device.{Feature}
-use borrow.Author.Rules.{rules}
 use Rattle.decision.proofs.accepted.option_of.Goals as goal
 
 pub returns : goal.returns

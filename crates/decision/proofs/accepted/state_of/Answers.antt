@@ -1,6 +1,5 @@
 use mathlib.Core.Path.{ap}
 use Rattle.model.specs.Device.{Feature}
-use borrow.Author.Rules.{rules}
 use Rattle.decision.proofs.accepted.state_of.Goals as goal
 
 pub returns : goal.returns

@@ -1,7 +1,6 @@
 use native.Mathlib.Omega.{arith}
 use Rattle.desk_session.specs.Report.{report}
 use Rattle.console.proofs.WroteLaws.{wrote_then}
-use borrow.Author.Rules.{rules}
 use Rattle.desk_session.proofs.report.put_report.Goals as goal
 
 pub returns : goal.returns

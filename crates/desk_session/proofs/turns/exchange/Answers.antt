@@ -2,7 +2,6 @@ use Rattle.desk_session.specs.Turn.{served, given}
 use Rattle.model.specs.Disk.{disk_of}
 use native.Mathlib.Omega.{arith}
 use Rattle.sct_disk.proofs.ResultLaws.{work-result}
-use borrow.Author.Rules.{rules}
 use Rattle.desk_session.proofs.turns.exchange.Goals as goal
 
 pub returns : goal.returns

@@ -1,7 +1,6 @@
 use native.Mathlib.Omega.{arith}
 use Rattle.console.proofs.WroteLaws.{wrote_as, wrote-begins}
 use Rattle.desk_session.proofs.TurnLaws.{line-turned}
-use borrow.Author.Rules.{rules}
 use Rattle.desk_session.proofs.turns.turn.Goals as goal
 
 pub returns : goal.returns

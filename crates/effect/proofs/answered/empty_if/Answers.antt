@@ -1,5 +1,3 @@
-use borrow.Author.Tests.{not-true, not-false}
-use borrow.Author.Rules.{rules}
 use Rattle.effect.proofs.answered.empty_if.Goals as goal
 
 pub returns-then-not-asked : goal.returns-then-not-asked

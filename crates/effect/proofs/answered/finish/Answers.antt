@@ -4,7 +4,6 @@ use Rattle.store.specs.Record.{answered}
 use Rattle.store.proofs.StageLaws.{stage-stored}
 use Rattle.record.specs.DeviceMeaning.{as_contents, history_of, history_after}
 use Rattle.effect.proofs.EmptiedLaws.{emptied-ready, emptied-history}
-use borrow.Author.Rules.{rules}
 use Rattle.effect.proofs.answered.finish.Goals as goal
 
 pub write-requires : goal.write-requires

@@ -1,5 +1,4 @@
 use native.Mathlib.Omega.{arith}
-use borrow.Author.Rules.{rules}
 use Rattle.effect.proofs.sends.send.Goals as goal
 
 pub put_read-requires : goal.put_read-requires

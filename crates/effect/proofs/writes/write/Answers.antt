@@ -1,6 +1,5 @@
 use mathlib.Core.Path.{refl}
 use native.Mathlib.Omega.{arith}
-use borrow.Author.Rules.{rules}
 use Rattle.effect.proofs.writes.write.Goals as goal
 
 pub write_sector-requires : goal.write_sector-requires
@@ -15,9 +14,9 @@ write_long-requires c =
 
 pub returns-in-Nothing : goal.returns-in-Nothing
 returns-in-Nothing c = rw c.in-Nothing.is record {
-      area = refl;
-      disk = refl;
-    }
+  area = refl;
+  disk = refl;
+}
 
 pub returns-in-Sector : goal.returns-in-Sector
 returns-in-Sector c =

@@ -1,6 +1,5 @@
 use Rattle.model.specs.Disk.{disk_of, with_sector}
 use Rattle.store.proofs.FollowLaws.{slot-data, slot-check}
-use borrow.Author.Rules.{rules}
 use Rattle.effect.proofs.writes.write_long.Goals as goal
 
 pub returns : goal.returns

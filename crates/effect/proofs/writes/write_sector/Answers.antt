@@ -1,10 +1,8 @@
-use mathlib.Core.Path.{◌∙◌, ap}
+use mathlib.Core.Path.{ap}
 use mathlib.Core.List.{List}
 use Prim.Native.Nat.{ℕ}
-use native.Mathlib.Omega.{arith}
 use Rattle.model.specs.Disk.{checked, disk_of, with_sector}
 use Rattle.store.proofs.FollowLaws.{slot-data}
-use borrow.Author.Rules.{rules}
 use Rattle.effect.proofs.writes.write_sector.Goals as goal
 
 pub returns : goal.returns

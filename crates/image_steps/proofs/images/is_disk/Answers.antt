@@ -1,5 +1,4 @@
 use native.Mathlib.Omega.{arith}
-use borrow.Author.Rules.{rules}
 use Rattle.image_steps.proofs.images.is_disk.Goals as goal
 
 pub returns : goal.returns

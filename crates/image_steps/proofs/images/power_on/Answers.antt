@@ -6,7 +6,6 @@ use Rattle.store.specs.Entries.{power_on_entry, power_on_bytes}
 use Rattle.wire.proofs.ChoiceLaws.{attempt-refused, attempt-done}
 use Rattle.wire.proofs.PartsLaws.{length-zeros, sets-whole}
 use Rattle.image_steps.proofs.ImageStepLaws.{power-on-passed}
-use borrow.Author.Rules.{rules}
 use Rattle.image_steps.proofs.images.power_on.Goals as goal
 
 pub returns-then-refusal-ne-DONE : goal.returns-then-refusal-ne-DONE

@@ -3,7 +3,6 @@ use native.Mathlib.Omega.{arith}
 use Rattle.wire.proofs.ChoiceLaws.{attempt-refused, attempt-done}
 use Rattle.store.specs.Entries.{save_entry, save_bytes}
 use Rattle.image_steps.proofs.ImageStepLaws.{save-passed}
-use borrow.Author.Rules.{rules}
 use Rattle.image_steps.proofs.images.save.Goals as goal
 
 pub returns-then-refusal-ne-DONE : goal.returns-then-refusal-ne-DONE

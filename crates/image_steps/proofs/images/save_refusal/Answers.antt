@@ -3,16 +3,15 @@ use Prim.Native.Nat.{ℕ}
 use Rattle.wire.specs.Choice.{first_failed}
 use Rattle.model.specs.Image.{save_checks}
 use Rattle.store.proofs.SoundLaws.{sound-parts}
-use Rattle.wire.proofs.ChoiceLaws.{passed, failed}
-use borrow.Author.Rules.{rules}
+use Rattle.wire.proofs.ChoiceLaws.{told}
 use Rattle.image_steps.proofs.images.save_refusal.Goals as goal
 
 pub returns-then-not-sound : goal.returns-then-not-sound
-returns-then-not-sound c = rw (failed c.sound.ensures c.if-not-sound.true)
+returns-then-not-sound c = rw (told c.sound.ensures c.if-not-sound.true)
 
 pub native_at-requires : goal.native_at-requires
-native_at-requires c = (sound-parts c.args.device.now (passed c.sound.ensures c.if-not-sound.false)).size
+native_at-requires c = (sound-parts c.args.device.now (told c.sound.ensures c.if-not-sound.false)).size
 
 pub returns : goal.returns
 returns c =
-    rw (passed c.sound.ensures c.if-not-sound.false) (c.save_refusal.ensures ∙ ap (λ (n : ℕ). first_failed (save_checks n c.args.image.now c.args.used)) c.native_at.ensures)
+    rw (told c.sound.ensures c.if-not-sound.false) (c.save_refusal.ensures ∙ ap (λ (n : ℕ). first_failed (save_checks n c.args.image.now c.args.used)) c.native_at.ensures)

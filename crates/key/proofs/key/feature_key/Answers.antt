@@ -1,30 +1,30 @@
-use Rattle.wire.proofs.ChoiceLaws.{passed, failed}
+use Rattle.wire.proofs.ChoiceLaws.{told}
 use borrow.Author.Tests.{eq-eqb, ne_eqb}
 use Rattle.model.specs.Key.{pattern_sector}
 use Rattle.key.proofs.key.feature_key.Goals as goal
 
 pub returns-then-not-between : goal.returns-then-not-between
-returns-then-not-between c = λ k f n s o. rw (f, failed c.between.ensures c.if-not-between.true)
+returns-then-not-between c = λ k f n s o. rw (f, told c.between.ensures c.if-not-between.true)
 
 pub returns-then-not-between-2 : goal.returns-then-not-between-2
-returns-then-not-between-2 c = λ k f n s o. rw (f, passed c.between.ensures c.if-not-between.false, n, failed c.between-2.ensures c.if-not-between-2.true)
+returns-then-not-between-2 c = λ k f n s o. rw (f, told c.between.ensures c.if-not-between.false, n, told c.between-2.ensures c.if-not-between-2.true)
 
 pub returns-then-not-between-3 : goal.returns-then-not-between-3
 returns-then-not-between-3 c =
     λ k f n s o.
-    rw (f, passed c.between.ensures c.if-not-between.false, n, passed c.between-2.ensures c.if-not-between-2.false, eq-eqb _ _ c.if-function-eq-FEATURE_SET.true, s, ← c.highest_state.ensures, failed c.between-then-function-eq-FEATURE_SET.ensures c.if-not-between-3.true)
+    rw (f, told c.between.ensures c.if-not-between.false, n, told c.between-2.ensures c.if-not-between-2.false, eq-eqb _ _ c.if-function-eq-FEATURE_SET.true, s, ← c.highest_state.ensures, told c.between-then-function-eq-FEATURE_SET.ensures c.if-not-between-3.true)
 
 pub returns-then-function-eq-FEATURE_SET : goal.returns-then-function-eq-FEATURE_SET
 returns-then-function-eq-FEATURE_SET c = λ k f n s o.
     rw (
       f,
-      passed c.between.ensures c.if-not-between.false,
+      told c.between.ensures c.if-not-between.false,
       n,
-      passed c.between-2.ensures c.if-not-between-2.false,
+      told c.between-2.ensures c.if-not-between-2.false,
       eq-eqb _ _ c.if-function-eq-FEATURE_SET.true,
       s,
       ← c.highest_state.ensures,
-      passed c.between-then-function-eq-FEATURE_SET.ensures c.if-not-between-3.false,
+      told c.between-then-function-eq-FEATURE_SET.ensures c.if-not-between-3.false,
       o,
       ← c.feature_name-feature.ensures,
     )
@@ -35,9 +35,9 @@ returns c = λ k f n s o.
     rw (
       c.feature_returned-action.ensures (pattern_sector k),
       f,
-      passed c.between.ensures c.if-not-between.false,
+      told c.between.ensures c.if-not-between.false,
       n,
-      passed c.between-2.ensures c.if-not-between-2.false,
+      told c.between-2.ensures c.if-not-between-2.false,
       ne_eqb _ _ c.if-function-eq-FEATURE_SET.false,
       c.feature_name-feature.ensures,
     )

@@ -1,4 +1,4 @@
-use Rattle.wire.proofs.ChoiceLaws.{passed, failed}
+use Rattle.wire.proofs.ChoiceLaws.{told}
 use mathlib.Core.Path.{◌∙◌, sym}
 use native.Mathlib.Omega.{arith}
 use Rattle.wire.specs.Parts.{part}
@@ -18,7 +18,7 @@ returns-then-not-between c =
     let a = c.args in
     λ d lock size.
     with-action a.locked a.visible (part a.area.now a.at sector_size) d lock size c.if-locked.false
-    (rw (number-first 2 a.area.now a.at sector_size (omega arith) c.u16_at-action.ensures) (failed c.between.ensures c.if-not-between.true))
+    (rw (number-first 2 a.area.now a.at sector_size (omega arith) c.u16_at-action.ensures) (told c.between.ensures c.if-not-between.true))
 
 pub returns-then-action-eq-ACTION_LONG : goal.returns-then-action-eq-ACTION_LONG
 returns-then-action-eq-ACTION_LONG c =
@@ -63,7 +63,7 @@ returns c =
     let w = number-first 2 a.area.now a.at sector_size (omega arith) c.u16_at-action.ensures in
     λ d lock size.
     c.table_key.ensures k (number_of 2 a.area.now a.at sector_size 2 (omega arith) c.u16_at-function.ensures) (number_of 2 a.area.now a.at sector_size 4 (omega arith) c.u16_at-name.ensures)
-    ∙ with-table a.locked a.visible k d lock size c.if-locked.false (rw w (passed c.between.ensures c.if-not-between.false))
+    ∙ with-table a.locked a.visible k d lock size c.if-locked.false (rw w (told c.between.ensures c.if-not-between.false))
     (λ e. c.if-action-eq-ACTION_LONG.false (sym w ∙ e))
     (λ e. c.if-action-eq-ACTION_FILL.false (sym w ∙ e))
     (λ e. c.if-action-eq-ACTION_TIMER.false (sym w ∙ e))

@@ -1,22 +1,22 @@
-use Rattle.wire.proofs.ChoiceLaws.{passed, failed}
+use Rattle.wire.proofs.ChoiceLaws.{told}
 use borrow.Author.Tests.{eq-eqb, ne_eqb}
 use mathlib.Core.Path.{◌∙◌, sym}
 use Rattle.key.proofs.key.timer_key.Goals as goal
 
 pub returns-then-not-between : goal.returns-then-not-between
-returns-then-not-between c = λ k f n t. rw (f, failed c.between.ensures c.if-not-between.true)
+returns-then-not-between c = λ k f n t. rw (f, told c.between.ensures c.if-not-between.true)
 
 pub returns-then-not-between-2 : goal.returns-then-not-between-2
-returns-then-not-between-2 c = λ k f n t. rw (f, passed c.between.ensures c.if-not-between.false, n, failed c.between-2.ensures c.if-not-between-2.true)
+returns-then-not-between-2 c = λ k f n t. rw (f, told c.between.ensures c.if-not-between.false, n, told c.between-2.ensures c.if-not-between-2.true)
 
 pub returns-then-between : goal.returns-then-between
 returns-then-between c =
     λ k f n t.
     rw (
       f,
-      passed c.between.ensures c.if-not-between.false,
+      told c.between.ensures c.if-not-between.false,
       n,
-      passed c.between-2.ensures c.if-not-between-2.false,
+      told c.between-2.ensures c.if-not-between-2.false,
       eq-eqb _ _ c.if-function-eq-TIMER_SET.true,
       t,
       sym c.between-then-function-eq-TIMER_SET.ensures ∙ c.if-between.true,
@@ -27,8 +27,8 @@ returns-then-between c =
 pub returns-then-function-eq-TIMER_SET : goal.returns-then-function-eq-TIMER_SET
 returns-then-function-eq-TIMER_SET c =
     λ k f n t.
-    rw (f, passed c.between.ensures c.if-not-between.false, n, passed c.between-2.ensures c.if-not-between-2.false, eq-eqb _ _ c.if-function-eq-TIMER_SET.true, t, sym c.between-then-function-eq-TIMER_SET.ensures ∙ c.if-between.false, c.direction_of-dir.ensures)
+    rw (f, told c.between.ensures c.if-not-between.false, n, told c.between-2.ensures c.if-not-between-2.false, eq-eqb _ _ c.if-function-eq-TIMER_SET.true, t, sym c.between-then-function-eq-TIMER_SET.ensures ∙ c.if-between.false, c.direction_of-dir.ensures)
 
 pub returns : goal.returns
 returns c =
-    λ k f n t. rw (f, passed c.between.ensures c.if-not-between.false, n, passed c.between-2.ensures c.if-not-between-2.false, ne_eqb _ _ c.if-function-eq-TIMER_SET.false, c.direction_of-dir.ensures)
+    λ k f n t. rw (f, told c.between.ensures c.if-not-between.false, n, told c.between-2.ensures c.if-not-between-2.false, ne_eqb _ _ c.if-function-eq-TIMER_SET.false, c.direction_of-dir.ensures)

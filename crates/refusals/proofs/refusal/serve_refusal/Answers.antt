@@ -4,7 +4,6 @@ use Rattle.wire.proofs.PartsLaws.{length-zeros}
 use Rattle.model.specs.Disk.{disk_of}
 use Rattle.store.proofs.SoundLaws.{sound-parts}
 use Rattle.refusals.proofs.CheckLaws.{work-passed, serve-first, serve-second}
-use borrow.Author.Rules.{rules}
 use Rattle.refusals.proofs.refusal.serve_refusal.Goals as goal
 
 pub returns-then-refusal-ne-DONE : goal.returns-then-refusal-ne-DONE

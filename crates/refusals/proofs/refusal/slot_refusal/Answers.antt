@@ -4,7 +4,6 @@ use Rattle.store.specs.Record.{stage_number, decode}
 use Rattle.store.specs.Store.{stage_for}
 use Rattle.store.proofs.StageLaws.{stage-read}
 use Rattle.record.specs.DeviceMeaning.{as_stage}
-use borrow.Author.Rules.{rules}
 use Rattle.refusals.proofs.refusal.slot_refusal.Goals as goal
 use Rattle.refusals.proofs.refusal.slot_refusal.Goals.{After-stage_number-2}
 

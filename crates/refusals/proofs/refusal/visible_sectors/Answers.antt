@@ -1,4 +1,3 @@
-use native.Mathlib.Omega.{arith}
 use Rattle.store.proofs.SoundLaws.{sound-parts}
 use Rattle.refusals.proofs.refusal.visible_sectors.Goals as goal
 

@@ -12,7 +12,6 @@ use Rattle.record.specs.DeviceMeaning.{history_of}
 use Rattle.record_write.proofs.FramedLaws.{sound-framed}
 use Rattle.device_update.proofs.ChangeLaws.{four-slots}
 use Rattle.repair_step.proofs.RepairLaws.{repaired-record, repaired-sectors}
-use borrow.Author.Rules.{rules}
 use Rattle.repair_step.proofs.repairing.repair.Goals as goal
 
 pub decode-d-requires : goal.decode-d-requires
@@ -37,6 +36,6 @@ returns c =
       report = reported;
       device = rw c.write.ensures.device_after (repaired-record a.device.now disk a.lba c.repair-report.result c.decode-d.result c.repaired-e.result c.decode-d.ensures reported c.repaired-e.ensures);
       disk = c.repair-report.ensures.s_after
-            ∙ ap (λ (n : ℕ). sets a.disk.now (sector_size * a.lba) (repaired_sector n content)) stored
-            ∙ repaired-sectors a.device.now disk a.lba (omega (arith, c.requires.1.0, c.requires.2));
+          ∙ ap (λ (n : ℕ). sets a.disk.now (sector_size * a.lba) (repaired_sector n content)) stored
+          ∙ repaired-sectors a.device.now disk a.lba (omega (arith, c.requires.1.0, c.requires.2));
     }

@@ -1,7 +1,6 @@
 use mathlib.Core.Path.{sym, ◌∙◌}
 use borrow.Author.Tests.{eq-eqb, ne_eqb}
 use Rattle.model.specs.Image.{saved_at}
-use borrow.Author.Rules.{rules}
 use Rattle.restore.proofs.newest.kept_index.Goals as goal
 
 pub returns-then-interval-u16_at : goal.returns-then-interval-u16_at

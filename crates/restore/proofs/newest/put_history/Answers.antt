@@ -1,6 +1,5 @@
 use mathlib.Core.Path.{sym, ◌∙◌}
 use Rattle.restore.proofs.RestoreLaws.{history-copied, history-left}
-use borrow.Author.Rules.{rules}
 use Rattle.restore.proofs.newest.put_history.Goals as goal
 
 pub returns-then-interval-u16_at : goal.returns-then-interval-u16_at

@@ -5,7 +5,6 @@ use Rattle.store.specs.Record.{encode}
 use Rattle.store.specs.Entries.{restored_contents}
 use Rattle.image.proofs.ImageAnswers.{read-entry}
 use Rattle.restore.proofs.RestoreLaws.{restored-blank, restored-newest}
-use borrow.Author.Rules.{rules}
 use Rattle.restore.proofs.newest.put_restored.Goals as goal
 
 pub overflow_sub-used : goal.overflow_sub-used

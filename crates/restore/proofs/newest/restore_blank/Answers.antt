@@ -8,7 +8,6 @@ use Rattle.record.specs.DeviceMeaning.{stages_of, as_device, as_contents, histor
 use Rattle.record_write.specs.Framed.{Framed}
 use Rattle.record_write.proofs.BlankLaws.{blank-framed, blank-history}
 use Rattle.restore.proofs.RestoreLaws.{restored-encoded}
-use borrow.Author.Rules.{rules}
 use Rattle.restore.proofs.newest.restore_blank.Goals as goal
 
 pub write-requires : goal.write-requires

@@ -5,7 +5,6 @@ use Rattle.model.specs.Image.{saved_at, power_on_thermal}
 use Rattle.store.specs.Record.{encode}
 use Rattle.record.specs.DeviceMeaning.{stages_of, as_device, as_contents}
 use Rattle.restore.proofs.RestoreLaws.{history-after, history-kept, restored-encoded}
-use borrow.Author.Rules.{rules}
 use Rattle.restore.proofs.newest.restore_entry.Goals as goal
 
 pub write-requires : goal.write-requires

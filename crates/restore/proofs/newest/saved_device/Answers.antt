@@ -3,7 +3,6 @@ use Prim.Native.Nat.{ℕ}
 use lib.Dec.{eqb}
 use Rattle.model.specs.Image.{saved_at}
 use Rattle.restore.proofs.RestoreLaws.{index_kept}
-use borrow.Author.Rules.{rules}
 use Rattle.restore.proofs.newest.saved_device.Goals as goal
 
 pub returns : goal.returns

@@ -1,5 +1,4 @@
 use Rattle.model.specs.Image.{saved_at}
-use borrow.Author.Rules.{rules}
 use Rattle.restore.proofs.newest.saved_settings.Goals as goal
 
 pub returns : goal.returns

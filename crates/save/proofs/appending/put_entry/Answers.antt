@@ -1,7 +1,6 @@
 use native.Mathlib.Omega.{arith}
 use Rattle.store.proofs.SoundLaws.{sound-parts}
 use Rattle.save.proofs.AppendLaws.{entry-stored}
-use borrow.Author.Rules.{rules}
 use Rattle.save.proofs.appending.put_entry.Goals as goal
 
 pub chain_form-entry_form-requires : goal.chain_form-entry_form-requires

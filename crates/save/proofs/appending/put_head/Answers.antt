@@ -1,7 +1,6 @@
 use Rattle.model.specs.Image.{saved_from}
 use Rattle.store.specs.Record.{decode}
 use Rattle.save.proofs.AppendLaws.{head-stored}
-use borrow.Author.Rules.{rules}
 use Rattle.save.proofs.appending.put_head.Goals as goal
 
 pub returns : goal.returns

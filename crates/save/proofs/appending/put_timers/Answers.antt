@@ -1,6 +1,5 @@
 use Rattle.model.specs.Image.{saved_from}
 use Rattle.store.specs.Record.{decode}
-use borrow.Author.Rules.{rules}
 use Rattle.save.proofs.appending.put_timers.Goals as goal
 
 pub returns : goal.returns

@@ -1,5 +1,4 @@
 use Rattle.save.proofs.AppendLaws.{trailer-stored}
-use borrow.Author.Rules.{rules}
 use Rattle.save.proofs.appending.put_trailer.Goals as goal
 
 pub returns : goal.returns

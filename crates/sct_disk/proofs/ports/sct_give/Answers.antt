@@ -8,7 +8,6 @@ use Rattle.store.specs.Areas.{slot_place}
 use Rattle.store.specs.Entries.{give_entry, give_bytes}
 use Rattle.store.proofs.StageLaws.{sound-stage}
 use Rattle.refusals.proofs.CheckLaws.{MailboxPassed, mailbox-passed}
-use borrow.Author.Rules.{rules}
 use Rattle.sct_disk.proofs.ports.sct_give.Goals as goal
 use Rattle.sct_disk.proofs.ports.sct_give.Goals.{Else-refusal-ne-DONE}
 

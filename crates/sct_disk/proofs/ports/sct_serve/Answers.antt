@@ -10,7 +10,6 @@ use Rattle.store.specs.Areas.{private_size}
 use Rattle.store.specs.Entries.{serve_entry, serve_bytes}
 use Rattle.refusals.proofs.CheckLaws.{DiskPassed, serve-passed}
 use Rattle.sct_disk.proofs.VisibleLaws.{VisiblePart, visible-part, serve-record, serve-area, serve-disk}
-use borrow.Author.Rules.{rules}
 use Rattle.sct_disk.proofs.ports.sct_serve.Goals as goal
 use Rattle.sct_disk.proofs.ports.sct_serve.Goals.{Else-refusal-ne-DONE, After-visible_sectors-visible}
 

@@ -11,7 +11,6 @@ use Rattle.store.specs.Record.{empty, held}
 use Rattle.store.specs.Entries.{take_entry, take_bytes}
 use Rattle.store.proofs.StageLaws.{sound-stage}
 use Rattle.refusals.proofs.CheckLaws.{MailboxPassed, mailbox-passed}
-use borrow.Author.Rules.{rules}
 use Rattle.sct_disk.proofs.ports.sct_take.Goals as goal
 use Rattle.sct_disk.proofs.ports.sct_take.Goals.{Else-refusal-ne-DONE}
 

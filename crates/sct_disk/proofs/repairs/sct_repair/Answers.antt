@@ -9,7 +9,6 @@ use Rattle.store.specs.Entries.{repair_entry, repair_bytes}
 use Rattle.refusals.proofs.CheckLaws.{DiskPassed, repair-passed}
 use Rattle.sct_disk.proofs.VisibleLaws.{VisiblePart, visible-part, repair-report, repair-record, repair-sectors}
 use Rattle.sct_disk.specs.Result.{result_of}
-use borrow.Author.Rules.{rules}
 use Rattle.sct_disk.proofs.repairs.sct_repair.Goals as goal
 use Rattle.sct_disk.proofs.repairs.sct_repair.Goals.{Else-refusal-ne-DONE, After-visible_sectors-visible}
 

@@ -8,7 +8,6 @@ use Rattle.store.specs.Entries.{work_entry, work_bytes}
 use Rattle.refusals.proofs.CheckLaws.{DiskPassed, work-passed}
 use Rattle.sct_disk.proofs.VisibleLaws.{VisiblePart, visible-part, work-record, work-disk}
 use Rattle.sct_disk.specs.Result.{result_of}
-use borrow.Author.Rules.{rules}
 use Rattle.sct_disk.proofs.works.sct_work.Goals as goal
 use Rattle.sct_disk.proofs.works.sct_work.Goals.{Else-refusal-ne-DONE, After-visible_sectors-visible}
 

@@ -8,7 +8,6 @@ use Rattle.record.specs.DeviceMeaning.{history_of}
 use Rattle.decision.specs.DecisionMeaning.{as_writing}
 use Rattle.effect.proofs.EmptiedLaws.{history-whole}
 use Rattle.serve_request.proofs.PerformLaws.{area-size, disk-size, sends-kept, record-size, performs}
-use borrow.Author.Rules.{rules}
 use Rattle.serve_request.proofs.performing.perform.Goals as goal
 
 pub finish-requires : goal.finish-requires

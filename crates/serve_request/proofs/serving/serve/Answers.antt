@@ -2,7 +2,6 @@ use mathlib.Core.Path.{sym, ap, ◌∙◌}
 use Rattle.model.specs.Disk.{disk_of}
 use Rattle.request.specs.RequestMeaning.{as_request}
 use Rattle.serve_request.proofs.ServeLaws.{status-served, serves-request}
-use borrow.Author.Rules.{rules}
 use Rattle.serve_request.proofs.serving.serve.Goals as goal
 
 pub returns-in-Status : goal.returns-in-Status

@@ -5,7 +5,6 @@ use Rattle.store.proofs.SoundLaws.{sound-parts}
 use Rattle.request.specs.RequestMeaning.{as_operation}
 use Rattle.device_update.proofs.ChangeLaws.{four-slots}
 use Rattle.serve_request.proofs.ServeLaws.{entered-visible, entered-pending, performable, serves}
-use borrow.Author.Rules.{rules}
 use Rattle.serve_request.proofs.serving.serve_operation.Goals as goal
 
 pub decode-d-requires : goal.decode-d-requires
