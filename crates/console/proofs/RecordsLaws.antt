@@ -5,7 +5,7 @@ use native.Mathlib.Nat.{div-add-mod, mod-lt, mul-le-mul_left}
 use native.Mathlib.Omega.{arith}
 use borrow.Author.Tests.{ne_eqb, lt-ltb, le-ltb}
 use lib.Dec.{eqb}
-use Rattle.wire.specs.Choice.{if◌then◌else◌}
+use Rattle.std.specs.Prelude.{if◌then◌else◌}
 use Rattle.console.specs.declared.input.Arrival.TheVariants.{Whole, Cut, End}
 use Rattle.console.specs.Records.{whole_records, stray_bytes, brought, arrival_of}
 

@@ -1,6 +1,5 @@
 -- A run of bytes as records of one size.
-use Rattle.std.specs.Prelude.{ℕ, ◌-◌, ◌*◌, ◌/◌, ◌%◌, min, eqb, ltb}
-use Rattle.wire.specs.Choice.{if◌then◌else◌}
+use Rattle.std.specs.Prelude.{ℕ, ◌-◌, ◌*◌, ◌/◌, ◌%◌, min, eqb, ltb, if◌then◌else◌}
 use Rattle.console.specs.declared.input.Arrival.{Arrival}
 use Rattle.console.specs.declared.input.Arrival.TheVariants.{Whole, Cut, End}
 

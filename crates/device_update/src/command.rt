@@ -1,6 +1,5 @@
 // How the last command changes: its code and words, its fill, and what is pending.
-ghost use Rattle.std.specs.Prelude.{◌≡◌, false, ◌<◌, length, set};
-ghost use Rattle.wire.specs.Choice.{if◌then◌else◌};
+ghost use Rattle.std.specs.Prelude.{◌≡◌, false, ◌<◌, length, set, if◌then◌else◌};
 ghost use Rattle.model.specs.Sizes.{port_count};
 ghost use Rattle.model.specs.Device.{none};
 ghost use Rattle.model.specs.Update.{with_code, with_key, with_initialized, with_pending};

@@ -1,7 +1,6 @@
 // The record with a slot answered: the history is emptied if asked for, then the device and the stage are written.
-ghost use Rattle.std.specs.Prelude.{◌≡◌, ◌+◌, ◌<◌, length};
+ghost use Rattle.std.specs.Prelude.{◌≡◌, ◌+◌, ◌<◌, length, if◌then◌else◌};
 ghost use Rattle.std.proofs.lemmas.List.Edits.{sets};
-ghost use Rattle.wire.specs.Choice.{if◌then◌else◌};
 ghost use Rattle.model.specs.Sizes.{port_count};
 ghost use Rattle.model.specs.Temperature.{table_head_size, empty_history};
 ghost use Rattle.store.specs.Areas.{head_size};

@@ -1,6 +1,5 @@
 -- The device after some sectors of its fill, in one step.
-use Rattle.std.specs.Prelude.{ℕ, ◌+◌, false, eqb}
-use Rattle.wire.specs.Choice.{if◌then◌else◌}
+use Rattle.std.specs.Prelude.{ℕ, ◌+◌, false, eqb, if◌then◌else◌}
 use Rattle.model.specs.Device.{Fill, idle, running, Device}
 use Rattle.model.specs.Update.{with_initialized}
 use Rattle.model.specs.Fill.{advanced}

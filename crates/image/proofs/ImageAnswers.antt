@@ -1,4 +1,5 @@
 -- The answers to an image, one law for each exit of the code.
+use Rattle.std.specs.Prelude.{if◌then◌else◌}
 use mathlib.Core.Path.{◌≡◌, refl, sym, ap}
 use mathlib.Core.Bool.{Bool, true, false, ◌&&◌}
 use Prim.Native.Nat.{ℕ, ◌+◌, ◌-◌, ◌/◌, ◌≤◌, ◌<◌}
@@ -7,7 +8,7 @@ use mathlib.Core.List.{List, [], ◌∷◌}
 use lib.ListN.{length}
 use lib.Dec.{eqb, leb, ltb}
 use borrow.Author.Tests.{leb-true, le-leb, lt-leb, eq-eqb, ne_eqb}
-use Rattle.wire.specs.Choice.{if◌then◌else◌, first_failed}
+use Rattle.wire.specs.Choice.{first_failed}
 use Rattle.wire.proofs.ChoiceLaws.{tests_same}
 use Rattle.model.specs.Sizes.{entry_size, entry_limit}
 use Rattle.model.specs.Image.{saved_at, readable, same_disk, image_checks, has_room, save_checks}

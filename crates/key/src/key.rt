@@ -1,6 +1,6 @@
 // The key sector: how it is read and checked in the paper's order, and what an accepted key asks for.
-ghost use Rattle.std.specs.Prelude.{◌≡◌, ℕ, ◌+◌, ◌≤◌, List, [], ◌∷◌, length, eqb, leb};
-ghost use Rattle.wire.specs.Choice.{if◌then◌else◌, between};
+ghost use Rattle.std.specs.Prelude.{◌≡◌, ℕ, ◌+◌, ◌≤◌, List, [], ◌∷◌, length, eqb, leb, if◌then◌else◌};
+ghost use Rattle.wire.specs.Choice.{between};
 ghost use Rattle.wire.specs.Parts.{part};
 ghost use Rattle.model.specs.Sizes.{sector_size};
 ghost use Rattle.model.specs.Device.{Device};

@@ -1,4 +1,5 @@
 -- The answers of a conversion (W-204), each by its number: 2, 5, 6, 9, and 0 for every other.
+use Rattle.std.specs.Prelude.{if◌then◌else◌}
 use mathlib.Core.Path.{◌≡◌, refl, subst}
 use mathlib.Core.Bool.{Bool, true, false, ◌&&◌, ◌||◌}
 use mathlib.Core.Logic.{◌⊎◌, inl, inr, ◌↔◌}
@@ -8,7 +9,7 @@ use mathlib.Core.List.{List, [], ◌∷◌}
 use lib.ListN.{length}
 use lib.Dec.{eqb, leb}
 use borrow.Author.Tests.{eqb-true, eqb-false, leb-true, le-leb, lt-leb}
-use Rattle.wire.specs.Choice.{if◌then◌else◌, between, first_failed}
+use Rattle.wire.specs.Choice.{between, first_failed}
 use Rattle.wire.specs.Numbers.{get}
 use Rattle.wire.specs.Bytes.{Bytes}
 use Rattle.wire.proofs.ChoiceLaws.{between-true, Numbered, all_pass, pass_all}

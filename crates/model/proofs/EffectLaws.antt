@@ -1,10 +1,11 @@
 -- No request both writes and sends, so its reply is the same whether it is built before or after the write.
+use Rattle.std.specs.Prelude.{if◌then◌else◌}
 use mathlib.Core.Path.{◌≡◌, refl, sym, ap, ◌∙◌}
 use mathlib.Core.Bool.{Bool, true, false}
 use mathlib.Core.Logic.{◌⊎◌, inl, inr}
 use mathlib.Core.List.{List}
 use Prim.Native.Nat.{ℕ, zero, suc}
-use Rattle.wire.specs.Choice.{if◌then◌else◌, first_failed, if_passed}
+use Rattle.wire.specs.Choice.{first_failed, if_passed}
 use Rattle.model.specs.Device.{Transfer, none, table, fill_data, read_long, write_long, Device}
 use Rattle.model.specs.Disk.{Disk, LongSector}
 use Rattle.model.specs.Update.{with_code, with_key}

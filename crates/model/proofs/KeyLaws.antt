@@ -1,4 +1,5 @@
 -- Laws of the key sector, in document 01's words: what an accepted fill, timer or feature asks for.
+use Rattle.std.specs.Prelude.{if◌then◌else◌}
 use mathlib.Core.Path.{◌≡◌, refl, sym, ap, ◌∙◌}
 use mathlib.Core.Bool.{Bool, true, false, not, ◌&&◌, ◌||◌}
 use mathlib.Core.Logic.{inl, inr}
@@ -9,7 +10,7 @@ use mathlib.Core.List.{List}
 use lib.ListN.{length, get_or}
 use lib.Dec.{eqb}
 use borrow.Author.Tests.{eqb-false, ne_eqb, leb-true, ltb-true, not-true}
-use Rattle.wire.specs.Choice.{if◌then◌else◌, between}
+use Rattle.wire.specs.Choice.{between}
 use Rattle.wire.specs.Parts.{part}
 use Rattle.wire.specs.Bytes.{Bytes}
 use Rattle.wire.proofs.ChoiceLaws.{between-true, between-within}

@@ -1,10 +1,11 @@
 -- W-206 in the reply: a refused key names its word in LBA Mid, and no other request does: "The key reply carries it in LBA Mid; E1h replies keep 0."
+use Rattle.std.specs.Prelude.{if◌then◌else◌}
 use mathlib.Core.Path.{◌≡◌, refl, ◌∙◌}
 use mathlib.Core.Bool.{Bool, true, false}
 use Prim.Native.Nat.{ℕ, zero, suc, ◌%◌, ◌/◌, ◌<◌}
 use native.Mathlib.Omega.{arith}
 use mathlib.Core.List.{List, []}
-use Rattle.wire.specs.Choice.{if◌then◌else◌, first_failed, if_passed}
+use Rattle.wire.specs.Choice.{first_failed, if_passed}
 use Rattle.wire.specs.Numbers.{get}
 use Rattle.model.specs.Sizes.{mailbox_size, port_count}
 use Rattle.model.specs.Device.{Device}

@@ -8,7 +8,7 @@ use mathlib.Core.List.{List, [], ◌∷◌}
 use lib.ListN.{get_or}
 use lib.Dec.{eqb}
 use borrow.Author.Tests.{ne_eqb}
-use Rattle.wire.specs.Choice.{if◌then◌else◌}
+use Rattle.std.specs.Prelude.{if◌then◌else◌}
 use Rattle.wire.specs.Numbers.{get}
 use Rattle.wire.proofs.NumbersLaws.{get-agree}
 use Rattle.model.specs.Registers.{Direction, read, write, status_read, key_sector, data_transfer, sector_access, other, features, count8, count16, lba_low, lba_mid, lba_mid16, lba_high, command_byte, lba48, log_page, smart_log, log_ext, request_of}

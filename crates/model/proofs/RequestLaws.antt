@@ -1,4 +1,5 @@
 -- Condition 2 for requests: for each kind of request, its reply, and the device and the disk afterwards.
+use Rattle.std.specs.Prelude.{if◌then◌else◌}
 use mathlib.Core.Path.{◌≡◌, refl, ap, subst, ◌∙◌}
 use mathlib.Core.Bool.{Bool, true, false}
 use Prim.Native.Nat.{ℕ, suc, ◌*◌, ◌≤◌, ◌<◌}
@@ -8,7 +9,7 @@ use lib.ListN.{get_or, set}
 use lib.Seq.{sets}
 use lib.Dec.{eqb}
 use borrow.Author.Tests.{eq-eqb, ne_eqb, lt-ltb, le-ltb}
-use Rattle.wire.specs.Choice.{if◌then◌else◌, bit, first_failed}
+use Rattle.wire.specs.Choice.{bit, first_failed}
 use Rattle.wire.specs.Numbers.{le, get, put}
 use Rattle.wire.specs.Parts.{part}
 use Rattle.sector_check.specs.Check.{check_of}

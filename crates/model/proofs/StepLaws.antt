@@ -1,4 +1,5 @@
 -- Laws of a step: done or refused, and the order of the refusals; and of a list of steps.
+use Rattle.std.specs.Prelude.{if◌then◌else◌}
 use mathlib.Core.Path.{◌≡◌, refl, sym, ap, ◌∙◌}
 use mathlib.Core.Bool.{Bool, true, ◌&&◌}
 use Prim.Native.Nat.{ℕ, zero, suc, ◌<◌}
@@ -7,7 +8,7 @@ use mathlib.Core.List.{List, [], ◌∷◌}
 use lib.ListN.{length}
 use lib.Dec.{eqb, leb}
 use borrow.Author.Tests.{eq-eqb, ne_eqb, lt-ltb}
-use Rattle.wire.specs.Choice.{if◌then◌else◌, Check, first_failed, if_passed}
+use Rattle.wire.specs.Choice.{Check, first_failed, if_passed}
 use Rattle.wire.proofs.ChoiceLaws.{Numbered, attempt-refused, attempt-done, pass_all}
 use Rattle.model.specs.Sizes.{port_count, mailbox_size, done, refusal_order}
 use Rattle.model.specs.Machine.{Port, empty, request, reply, Machine, while_running, with_port}

@@ -9,7 +9,7 @@ use lib.IntN.{ℤ, pos, negsuc, ◌-ℤ◌}
 use lib.Signed.{le_z, ◌≤ℤ◌, ≤ℤ_refl}
 use lib.Dec.{eqb, le→leb}
 use borrow.Author.Tests.{eqb-true, ne_eqb, leb-false, lt-ltb, le-ltb}
-use Rattle.wire.specs.Choice.{if◌then◌else◌}
+use Rattle.std.specs.Prelude.{if◌then◌else◌}
 use Rattle.model.specs.Sizes.{history_size, missing}
 use Rattle.model.specs.Device.{Thermal}
 use Rattle.model.specs.Temperature.{signed, new_maximum, next_index, sampled}

@@ -9,7 +9,7 @@ use lib.ListN.{length, set, length-set, replicate, length-replicate}
 use lib.Signed.{le_z}
 use lib.Dec.{eqb, ltb}
 use borrow.Author.Tests.{eqb-false, ltb-true}
-use Rattle.wire.specs.Choice.{if◌then◌else◌}
+use Rattle.std.specs.Prelude.{if◌then◌else◌}
 use Rattle.wire.specs.Bytes.{Bytes}
 use Rattle.wire.proofs.BytesLaws.{bytes-set, bytes-replicate}
 use Rattle.model.specs.Sizes.{port_count, history_size, missing}

@@ -1,4 +1,5 @@
 -- What a request decides is in document 01's ranges: the device, the effect and the reply's registers.
+use Rattle.std.specs.Prelude.{if◌then◌else◌}
 use mathlib.Core.Path.{◌≡◌, refl, ap, ◌∙◌}
 use mathlib.Core.Bool.{Bool, true, false}
 use mathlib.Core.Logic.{◌⊎◌, inl, inr}
@@ -7,7 +8,7 @@ use native.Mathlib.Omega.{arith}
 use mathlib.Core.List.{List, [], ◌∷◌}
 use lib.ListN.{length, get_or}
 use borrow.Author.Tests.{ltb-true}
-use Rattle.wire.specs.Choice.{if◌then◌else◌, Check, first_failed, if_passed}
+use Rattle.wire.specs.Choice.{Check, first_failed, if_passed}
 use Rattle.wire.specs.Bytes.{Bytes}
 use Rattle.wire.proofs.ChoiceLaws.{bit-small, all_pass, first-bound}
 use Rattle.wire.proofs.PartsLaws.{length_part}

@@ -1,7 +1,7 @@
 -- What a request does: the new device, the reply's registers, and an effect. Nothing here reads the disk; a read whose sector's check differs is
 -- answered otherwise where it is performed (Perform.antt).
-use Rattle.std.specs.Prelude.{Bool, true, false, not, ℕ, List, [], ◌∷◌, get_or, set, eqb, ltb}
-use Rattle.wire.specs.Choice.{if◌then◌else◌, bit, Check, first_failed, if_passed}
+use Rattle.std.specs.Prelude.{Bool, true, false, not, ℕ, List, [], ◌∷◌, get_or, set, eqb, ltb, if◌then◌else◌}
+use Rattle.wire.specs.Choice.{bit, Check, first_failed, if_passed}
 use Rattle.model.specs.Sizes.{long_sectors}
 use Rattle.model.specs.Device.{Transfer, none, table, fill_data, read_long, write_long, Feature, Settings, Device}
 use Rattle.model.specs.Disk.{LongSector, checked}

@@ -1,6 +1,5 @@
 -- The fill: how it starts, advances by one sector, advances under a budget, and is stopped; the write of a sector.
-use Rattle.std.specs.Prelude.{Bool, false, ◌&&◌, ℕ, zero, suc, ◌-◌, min, List, replicate, eqb}
-use Rattle.wire.specs.Choice.{if◌then◌else◌}
+use Rattle.std.specs.Prelude.{Bool, false, ◌&&◌, ℕ, zero, suc, ◌-◌, min, List, replicate, eqb, if◌then◌else◌}
 use Rattle.model.specs.Sizes.{port_count}
 use Rattle.model.specs.Device.{Fill, idle, running, Transfer, none, Device}
 use Rattle.model.specs.Disk.{Disk, LongSector, checked, with_sector}

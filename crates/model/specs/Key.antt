@@ -1,6 +1,6 @@
 -- The key sector: its checks in the paper's order, and what an accepted key asks for.
-use Rattle.std.specs.Prelude.{Bool, not, ◌&&◌, ◌||◌, ℕ, ◌+◌, ◌-◌, ◌*◌, List, [], ◌∷◌, eqb, leb, ltb}
-use Rattle.wire.specs.Choice.{if◌then◌else◌, between}
+use Rattle.std.specs.Prelude.{Bool, not, ◌&&◌, ◌||◌, ℕ, ◌+◌, ◌-◌, ◌*◌, List, [], ◌∷◌, eqb, leb, ltb, if◌then◌else◌}
+use Rattle.wire.specs.Choice.{between}
 use Rattle.wire.specs.Numbers.{get}
 use Rattle.wire.specs.Parts.{part, repeated}
 use Rattle.model.specs.Device.{Device}

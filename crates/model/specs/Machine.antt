@@ -1,6 +1,5 @@
 -- The machine: the device, the fill's sector, the four ports and the disk.
-use Rattle.std.specs.Prelude.{ℕ, [], eqb}
-use Rattle.wire.specs.Choice.{if◌then◌else◌}
+use Rattle.std.specs.Prelude.{ℕ, [], eqb, if◌then◌else◌}
 use Rattle.model.specs.Device.{Fill, idle, running, Device}
 use Rattle.model.specs.Disk.{Disk}
 use Rattle.model.specs.Buffers.{Mailbox, Sector}

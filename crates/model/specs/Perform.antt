@@ -1,6 +1,5 @@
 -- How an effect is performed: first what is written, then what is sent. Only this, the fill's sector step and the repair access the disk.
-use Rattle.std.specs.Prelude.{Bool, ℕ, suc, List, [], ◌++◌, eqb}
-use Rattle.wire.specs.Choice.{if◌then◌else◌}
+use Rattle.std.specs.Prelude.{Bool, ℕ, suc, List, [], ◌++◌, eqb, if◌then◌else◌}
 use Rattle.wire.specs.Numbers.{le}
 use Rattle.sector_check.specs.Check.{check_of}
 use Rattle.model.specs.Sizes.{check_size}

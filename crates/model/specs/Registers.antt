@@ -1,6 +1,5 @@
 -- The registers of a mailbox: which request they encode, and the registers of a reply.
-use Rattle.std.specs.Prelude.{◌&&◌, ℕ, ◌+◌, ◌/◌, ◌%◌, List, [], ◌∷◌, ◌++◌, get_or, eqb}
-use Rattle.wire.specs.Choice.{if◌then◌else◌}
+use Rattle.std.specs.Prelude.{◌&&◌, ℕ, ◌+◌, ◌/◌, ◌%◌, List, [], ◌∷◌, ◌++◌, get_or, eqb, if◌then◌else◌}
 use Rattle.wire.specs.Numbers.{get}
 use Rattle.wire.specs.Parts.{part, padded}
 use Rattle.wire.specs.Layout.{Field, form}

@@ -1,6 +1,5 @@
 -- The repair of a sector by its check bytes, an owner step: what it reports, and what it leaves.
-use Rattle.std.specs.Prelude.{ℕ, Bool, false, eqb}
-use Rattle.wire.specs.Choice.{if◌then◌else◌}
+use Rattle.std.specs.Prelude.{ℕ, Bool, false, eqb, if◌then◌else◌}
 use Rattle.sector_check.specs.Repair.{report_of, repaired_sector}
 use Rattle.model.specs.Device.{Device}
 use Rattle.model.specs.Disk.{Disk, sector_at, with_content}

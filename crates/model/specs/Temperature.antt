@@ -1,7 +1,6 @@
 -- Temperatures: a sample, the history, and the table that a host reads.
-use Rattle.std.specs.Prelude.{Bool, ℕ, suc, ◌-◌, List, [], ◌∷◌, ◌++◌, ℤ, pos, negsuc, set, replicate, eqb, ltb}
+use Rattle.std.specs.Prelude.{Bool, ℕ, suc, ◌-◌, List, [], ◌∷◌, ◌++◌, ℤ, pos, negsuc, set, replicate, eqb, ltb, if◌then◌else◌}
 use Rattle.std.specs.Int.Signed.{le_z}
-use Rattle.wire.specs.Choice.{if◌then◌else◌}
 use Rattle.wire.specs.Layout.{Field, form}
 use Rattle.model.specs.Sizes.{history_size, missing}
 use Rattle.model.specs.Device.{Thermal}

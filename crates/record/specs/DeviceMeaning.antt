@@ -1,6 +1,5 @@
 -- What the structs mean: the model's device, field by field, and the record's contents. The history comes from the record's bytes.
-use Rattle.std.specs.Prelude.{Bool, List, map, ℕ, ◌+◌}
-use Rattle.wire.specs.Choice.{if◌then◌else◌}
+use Rattle.std.specs.Prelude.{Bool, List, map, ℕ, ◌+◌, if◌then◌else◌}
 use Rattle.wire.specs.Parts.{part}
 use Rattle.model.specs.Sizes.{history_size}
 use Rattle.model.specs.Device.{Fill, idle, running, Transfer, none, table, fill_data, read_long, write_long, Feature, Command, Settings, Thermal, Device}

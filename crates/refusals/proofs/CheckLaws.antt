@@ -1,4 +1,5 @@
 -- What holds for the buffers when the checks of take, serve, give, work and repair pass.
+use Rattle.std.specs.Prelude.{if◌then◌else◌}
 use mathlib.Core.Path.{◌≡◌, refl, sym, ◌∙◌}
 use mathlib.Core.Bool.{Bool, true, false}
 use mathlib.Core.List.{List, [], ◌∷◌, ◌++◌}
@@ -7,7 +8,7 @@ use native.Mathlib.Omega.{arith}
 use lib.ListN.{length}
 use lib.Dec.{eqb}
 use borrow.Author.Tests.{eqb-true, ltb-true}
-use Rattle.wire.specs.Choice.{if◌then◌else◌, Check, first_failed, if_passed, Guarded, attempt}
+use Rattle.wire.specs.Choice.{Check, first_failed, if_passed, Guarded, attempt}
 use Rattle.wire.specs.Bytes.{Bytes}
 use Rattle.wire.proofs.ChoiceLaws.{and_left, and_right, Numbered, passed-not, attempt-refused, attempt-done, all_pass, pass_all}
 use Rattle.model.specs.Sizes.{sector_size, check_size, native_limit, port_count, mailbox_size}

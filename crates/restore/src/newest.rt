@@ -1,7 +1,7 @@
 // What power-on restores: the device of the newest entry, or that of an empty image.
-ghost use Rattle.std.specs.Prelude.{◌≡◌, ◌+◌, ◌≤◌, length, replicate, eqb};
+ghost use Rattle.std.specs.Prelude.{◌≡◌, ◌+◌, ◌≤◌, length, replicate, eqb, if◌then◌else◌};
 ghost use Rattle.std.proofs.lemmas.List.Edits.{sets};
-ghost use Rattle.wire.specs.Choice.{if◌then◌else◌, first_failed};
+ghost use Rattle.wire.specs.Choice.{first_failed};
 ghost use Rattle.model.specs.Sizes.{port_count, body_size};
 ghost use Rattle.model.specs.Temperature.{table_head_size, empty_history, empty_index};
 ghost use Rattle.model.specs.Image.{Saved, has_bit, saved_at, image_checks, blank, power_on_settings, power_on_thermal, power_on, restored};

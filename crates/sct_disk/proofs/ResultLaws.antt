@@ -1,11 +1,12 @@
 -- The results of work and repair, taken apart again into the answer and what is reported.
+use Rattle.std.specs.Prelude.{if◌then◌else◌}
 use mathlib.Core.Path.{◌≡◌}
 use mathlib.Core.Bool.{Bool, true, false}
 use mathlib.Core.List.{List}
 use Prim.Native.Nat.{ℕ, zero, suc, ◌/◌, ◌%◌, ◌≤◌, ◌<◌}
 use native.Mathlib.Omega.{arith}
 use lib.Dec.{eqb}
-use Rattle.wire.specs.Choice.{if◌then◌else◌, first_failed, if_passed}
+use Rattle.wire.specs.Choice.{first_failed, if_passed}
 use Rattle.sector_check.specs.Check.{check_of}
 use Rattle.sector_check.specs.Repair.{difference, report_of}
 use Rattle.model.specs.Disk.{Disk, LongSector, sector_at}

@@ -9,7 +9,7 @@ use lib.ListN.{length, get_or}
 use lib.Bits.{bit_xor, xor_shr, xor_mod, xor_lt, xor_self, xor_comm, xor_zero_l, xor_zero_r, xor_block}
 use lib.Dec.{eqb}
 use borrow.Author.Tests.{eqb-true, eq-eqb, ne_eqb}
-use Rattle.wire.specs.Choice.{if◌then◌else◌}
+use Rattle.std.specs.Prelude.{if◌then◌else◌}
 use Rattle.wire.specs.Parts.{zeros}
 use Rattle.wire.proofs.PartsLaws.{length-zeros, get_or-zeros}
 use Rattle.sector_check.specs.Xor.{xor_to, digit}

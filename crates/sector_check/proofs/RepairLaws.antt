@@ -7,7 +7,7 @@ use mathlib.Core.List.{List}
 use lib.Bits.{bit_xor, xor_comm, xor_self}
 use lib.Dec.{eqb}
 use borrow.Author.Tests.{eqb-true, eq-eqb, ne_eqb}
-use Rattle.wire.specs.Choice.{if◌then◌else◌}
+use Rattle.std.specs.Prelude.{if◌then◌else◌}
 use Rattle.sector_check.specs.Check.{check_of, flip}
 use Rattle.sector_check.specs.Repair.{difference, report_of, repaired_sector}
 use Rattle.sector_check.proofs.XorLaws.{xor-back, xor-zero-eq}

@@ -9,7 +9,7 @@ use lib.ListN.{length, get_or}
 use lib.Bits.{bit_xor, xor_lt}
 use lib.Pow.{pow-lt}
 use lib.Dec.{eqb}
-use Rattle.wire.specs.Choice.{if◌then◌else◌}
+use Rattle.std.specs.Prelude.{if◌then◌else◌}
 use Rattle.wire.specs.Parts.{zeros}
 use Rattle.wire.specs.Bytes.{Bytes}
 use Rattle.wire.proofs.PartsLaws.{get_or-zeros}

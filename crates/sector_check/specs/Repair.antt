@@ -1,7 +1,6 @@
 -- What a repair reports, and the sector that it leaves.
-use Rattle.std.specs.Prelude.{ℕ, ◌/◌, ◌%◌, List, eqb}
+use Rattle.std.specs.Prelude.{ℕ, ◌/◌, ◌%◌, List, eqb, if◌then◌else◌}
 use Rattle.std.specs.Int.Bits.{bit_xor}
-use Rattle.wire.specs.Choice.{if◌then◌else◌}
 use Rattle.sector_check.specs.Check.{check_of, flip}
 
 -- where the stored check and the computed one differ: a one for each bit that does; W-202: "the differing position" is its bits 0 to 11

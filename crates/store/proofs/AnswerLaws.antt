@@ -1,4 +1,5 @@
 -- Condition 1, and which answers a list of steps can give.
+use Rattle.std.specs.Prelude.{if◌then◌else◌}
 use mathlib.Core.Path.{◌≡◌, refl, sym, ap, subst, ◌∙◌}
 use mathlib.Core.Bool.{Bool, true, false}
 use mathlib.Core.Logic.{◌↔◌}
@@ -8,7 +9,7 @@ use mathlib.Core.List.{List, [], ◌∷◌}
 use lib.ListN.{length, drop}
 use lib.Dec.{eqb, ltb, leb}
 use borrow.Author.Tests.{eqb-false, ltb-true, lt-ltb, leb-true, leb-false, le-leb}
-use Rattle.wire.specs.Choice.{if◌then◌else◌, Check, first_failed}
+use Rattle.wire.specs.Choice.{Check, first_failed}
 use Rattle.wire.proofs.ChoiceLaws.{Numbered, and_left, and_right, first-bound, attempt-refused, attempt-done, attempt-answer, all_pass, pass_all}
 use Rattle.model.specs.Sizes.{mailbox_size}
 use Rattle.model.specs.Image.{well_sized, readable, same_disk}

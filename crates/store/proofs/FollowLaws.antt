@@ -9,7 +9,7 @@ use lib.ListN.{length, get_or, set, drop, get_or-eq_default}
 use lib.Seq.{sets, get_or-set_same, get_or-set_other, get_or-drop}
 use lib.Dec.{eqb}
 use borrow.Author.Tests.{eqb-true, eqb-false}
-use Rattle.wire.specs.Choice.{if◌then◌else◌}
+use Rattle.std.specs.Prelude.{if◌then◌else◌}
 use Rattle.wire.specs.Numbers.{get}
 use Rattle.wire.specs.Parts.{part}
 use Rattle.wire.specs.Bytes.{Bytes}

@@ -1,4 +1,5 @@
 -- A status read on the bytes: what it leaves, and (W-205) that this is the same whatever the slot's sectors held.
+use Rattle.std.specs.Prelude.{if◌then◌else◌}
 use mathlib.Core.Path.{◌≡◌, refl, sym, ap, ◌∙◌}
 use mathlib.Core.Bool.{Bool, true, false}
 use Prim.Native.Nat.{ℕ, ◌+◌, ◌*◌, ◌≤◌, ◌<◌}
@@ -6,7 +7,7 @@ use native.Mathlib.Omega.{arith}
 use mathlib.Core.List.{List, []}
 use lib.ListN.{length, get_or}
 use lib.Seq.{sets, length-sets}
-use Rattle.wire.specs.Choice.{if◌then◌else◌, first_failed}
+use Rattle.wire.specs.Choice.{first_failed}
 use Rattle.wire.proofs.ChoiceLaws.{attempt-answer, attempt-done}
 use Rattle.wire.proofs.NumbersLaws.{get_or_sets_before}
 use Rattle.wire.proofs.PartsLaws.{get_or_part}

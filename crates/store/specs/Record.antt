@@ -1,6 +1,6 @@
 -- The device record: the device and the four slots' stages as 1,024 bytes, and what such bytes decode to.
-use Rattle.std.specs.Prelude.{Bool, ℕ, ◌+◌, ◌*◌, List, [], ◌∷◌, ◌++◌, get_or, eqb}
-use Rattle.wire.specs.Choice.{if◌then◌else◌, bit}
+use Rattle.std.specs.Prelude.{Bool, ℕ, ◌+◌, ◌*◌, List, [], ◌∷◌, ◌++◌, get_or, eqb, if◌then◌else◌}
+use Rattle.wire.specs.Choice.{bit}
 use Rattle.wire.specs.Numbers.{get}
 use Rattle.wire.specs.Parts.{part}
 use Rattle.wire.specs.Layout.{Field, form}

@@ -8,7 +8,7 @@ use lib.Signed.{le_z}
 use lib.ListN.{set}
 use lib.Dec.{leb, ltb}
 use borrow.Author.Tests.{eq-eqb, ne_eqb, leb-true, le-leb, lt-leb, ltb-true, ltb-false}
-use Rattle.wire.specs.Choice.{if◌then◌else◌}
+use Rattle.std.specs.Prelude.{if◌then◌else◌}
 use Rattle.wire.proofs.ChoiceLaws.{tests_same}
 use Rattle.model.specs.Sizes.{history_size}
 use Rattle.model.specs.Temperature.{signed, new_maximum, next_index, sampled}

@@ -1,6 +1,5 @@
 -- A struct, and a record's bytes, after a sample.
-use Rattle.std.specs.Prelude.{◌≡◌, List, ℕ, suc, ◌+◌, ◌-◌, set, ltb}
-use Rattle.wire.specs.Choice.{if◌then◌else◌}
+use Rattle.std.specs.Prelude.{◌≡◌, List, ℕ, suc, ◌+◌, ◌-◌, set, ltb, if◌then◌else◌}
 use Rattle.model.specs.Temperature.{table_head_size, next_index, sampled}
 use Rattle.model.specs.Owner.{sample}
 use Rattle.store.specs.Areas.{head_size}

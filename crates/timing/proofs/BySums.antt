@@ -6,7 +6,7 @@ use native.Mathlib.Omega.{arith}
 use mathlib.Core.List.{List, [], ◌∷◌}
 use lib.Dec.{eqb, ltb}
 use borrow.Author.Tests.{ne_eqb, lt-ltb}
-use Rattle.wire.specs.Choice.{if◌then◌else◌}
+use Rattle.std.specs.Prelude.{if◌then◌else◌}
 use Rattle.timing.specs.declared.timer.Timer.{Timer}
 use Rattle.timing.specs.declared.timer.Timer.TheVariants.{Disabled, Armed}
 use Rattle.timing.specs.declared.command.Command.{Command}

@@ -5,7 +5,7 @@ use Prim.Native.Nat.{ℕ, ◌+◌, ◌≤◌, ◌<◌}
 use native.Mathlib.Omega.{arith}
 use mathlib.Core.List.{List, [], ◌∷◌}
 use lib.Dec.{ltb}
-use Rattle.wire.specs.Choice.{if◌then◌else◌}
+use Rattle.std.specs.Prelude.{if◌then◌else◌}
 use Rattle.timing.specs.declared.timer.Timer.{Timer}
 use Rattle.timing.specs.declared.timer.Timer.TheVariants.{Armed}
 use Rattle.timing.specs.declared.command.Command.{Command}

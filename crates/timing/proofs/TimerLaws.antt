@@ -6,7 +6,7 @@ use Prim.Native.Nat.{ℕ, ◌+◌, ◌≤◌, ◌<◌}
 use native.Mathlib.Omega.{arith}
 use lib.Dec.{ltb}
 use borrow.Author.Tests.{lt-ltb, le-ltb, ltb-true, ltb-false}
-use Rattle.wire.specs.Choice.{if◌then◌else◌}
+use Rattle.std.specs.Prelude.{if◌then◌else◌}
 use Rattle.timing.specs.declared.timer.Timer.{Timer}
 use Rattle.timing.specs.declared.timer.Timer.TheVariants.{Running, Expired}
 use Rattle.timing.specs.Timer.{passed, commanded, is_expired}

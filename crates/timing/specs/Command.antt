@@ -1,6 +1,5 @@
 -- A command of a bus trace.
-use Rattle.std.specs.Prelude.{Bool, ◌||◌, ℕ, ◌+◌, List, get_or, eqb}
-use Rattle.wire.specs.Choice.{if◌then◌else◌}
+use Rattle.std.specs.Prelude.{Bool, ◌||◌, ℕ, ◌+◌, List, get_or, eqb, if◌then◌else◌}
 use Rattle.wire.specs.Numbers.{get}
 use Rattle.timing.specs.declared.command.Command.{Command}
 use Rattle.timing.specs.declared.command.Kind.{Kind}

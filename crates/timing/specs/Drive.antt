@@ -1,6 +1,5 @@
 -- A drive with time-limited commands: its timer and mode, and what it makes of a command.
-use Rattle.std.specs.Prelude.{◌||◌, ℕ, eqb, ltb}
-use Rattle.wire.specs.Choice.{if◌then◌else◌}
+use Rattle.std.specs.Prelude.{◌||◌, ℕ, eqb, ltb, if◌then◌else◌}
 use Rattle.timing.specs.declared.timer.Timer.{Timer}
 use Rattle.timing.specs.declared.timer.Timer.TheVariants.{Disabled}
 use Rattle.timing.specs.declared.command.Command.{Command}

@@ -1,6 +1,5 @@
 -- The timer. "The timer is disabled, armed, running or expired."
-use Rattle.std.specs.Prelude.{Bool, true, false, ℕ, ◌+◌, ◌*◌, eqb, ltb}
-use Rattle.wire.specs.Choice.{if◌then◌else◌}
+use Rattle.std.specs.Prelude.{Bool, true, false, ℕ, ◌+◌, ◌*◌, eqb, ltb, if◌then◌else◌}
 use Rattle.timing.specs.declared.timer.Timer.{Timer}
 use Rattle.timing.specs.declared.timer.Timer.TheVariants.{Disabled, Armed, Running, Expired}
 

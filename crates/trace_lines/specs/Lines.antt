@@ -1,6 +1,5 @@
 -- What `trace` prints for a run of bytes.
-use Rattle.std.specs.Prelude.{ℕ, zero, suc, ◌+◌, ◌*◌, List, [], ◌∷◌, ◌++◌, length, eqb}
-use Rattle.wire.specs.Choice.{if◌then◌else◌}
+use Rattle.std.specs.Prelude.{ℕ, zero, suc, ◌+◌, ◌*◌, List, [], ◌∷◌, ◌++◌, length, eqb, if◌then◌else◌}
 use Rattle.console.specs.Text.{ascii}
 use Rattle.console.specs.Records.{whole_records, stray_bytes}
 use Rattle.timing.specs.declared.command.Command.{Command}

@@ -1,4 +1,5 @@
 -- Laws of tests and of lists of checks.
+use Rattle.std.specs.Prelude.{if◌then◌else◌}
 use mathlib.Core.Path.{◌≡◌, refl, sym, ap, ◌∙◌}
 use mathlib.Core.Bool.{Bool, true, false, ◌&&◌, not}
 use Prim.Native.Nat.{ℕ, zero, suc, ◌≤◌, ◌<◌}
@@ -7,7 +8,7 @@ use native.Mathlib.Decide.{dec_lt}
 use mathlib.Core.List.{List, [], ◌∷◌, ◌++◌}
 use borrow.Author.Tests.{not-true, not-false, leb-true, le-leb}
 use lib.Dec.{leb}
-use Rattle.wire.specs.Choice.{if◌then◌else◌, bit, between, Check, first_failed, if_passed, Guarded, attempt}
+use Rattle.wire.specs.Choice.{bit, between, Check, first_failed, if_passed, Guarded, attempt}
 
 pub and_left : (a b : Bool) → (a && b) ≡ true → a ≡ true
 and_left true b h = refl

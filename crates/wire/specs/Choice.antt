@@ -1,10 +1,5 @@
--- A choice by a test, the first of several tests that fails, and a step that such tests guard.
-use Rattle.std.specs.Prelude.{Bool, true, false, ◌&&◌, ℕ, zero, suc, List, [], ◌∷◌, leb}
-
-infixr 1 if◌then◌else◌
-abbrev pub if◌then◌else◌ : {A : Type 0} → Bool → A → A → A
-if◌then◌else◌ true a b = a
-if◌then◌else◌ false a b = b
+-- A test as a number, the first of several tests that fails, and a step that such tests guard.
+use Rattle.std.specs.Prelude.{Bool, true, false, ◌&&◌, ℕ, zero, suc, List, [], ◌∷◌, leb, if◌then◌else◌}
 
 -- a test as a bit
 abbrev pub bit : Bool → ℕ

@@ -1,6 +1,6 @@
 use mathlib.Core.Path.{sym, ap, ◌∙◌}
 use mathlib.Core.Bool.{Bool}
-use Rattle.wire.specs.Choice.{if◌then◌else◌}
+use Rattle.std.specs.Prelude.{if◌then◌else◌}
 use Rattle.image.proofs.ImageAnswers.{save-as-read, read-within, save-room}
 use Rattle.image.proofs.refusal.save_refusal.Goals as goal
 
