@@ -14,10 +14,10 @@ from sources import ROOT
 CRATES = {"store": ("wire", "sector_check", "model", "store"), "trace_lines": ("wire", "console", "timing", "trace_lines")}
 READ_ONLY = ("wire", "console")
 EXAMPLES = "Examples"
-TOKEN = re.compile(r"[^\s(){};,]+")
-# tokens of one type, by the module from which they are imported
-GROUPS = {"Prim.Native.Nat": ("+ - *", "* ^", "/ %", "≤ <"), "mathlib.Core.Bool": ("&& ||", "true false"), "lib.Dec": ("eqb leb ltb",)}
-MODULES = {token: module for module, groups in GROUPS.items() for token in " ".join(groups).split()}
+TOKEN = re.compile(r"\.\w+|[^\s(){};,.]+")              # `d.visible` has two
+# tokens of one type, each from the Prelude
+PRELUDE = "use Rattle.std.specs.Prelude.{"
+GROUPS = [group.split() for group in ("+ - *", "* ^", "/ %", "≤ <", "&& ||", "true false", "eqb leb ltb")]
 LEFT_OUT = ("not", "suc")
 
 
@@ -25,6 +25,12 @@ class Name(NamedTuple):
     type: str
     constructor: bool = False
     value: int | None = None        # of a constant that is a number
+
+
+def imported(token, text):
+    """Whether a file imports a token from the Prelude."""
+    name = token if token.isalpha() else f"◌{token}◌"
+    return re.search(rf"^{re.escape(PRELUDE)}(?:.*, )?{re.escape(name)}[,}}]", text, re.M) is not None
 
 
 class Change(NamedTuple):
@@ -42,10 +48,9 @@ class Change(NamedTuple):
         """The file's text with the change, and with the import that it may need."""
         text = self.path.read_text(encoding="utf-8")
         text = text[:self.start] + self.new + text[self.start + len(self.old):]
-        if module := MODULES.get(self.new):
-            name = self.new if self.new.isalpha() else f"_{self.new}_"
-            if not re.search(rf"^use {module}\.\{{(?:.*, )?{re.escape(name)}[,}}]", text, re.M):
-                text = text.replace(f"use {module}.{{", f"use {module}.{{{name}, ", 1)
+        if any(self.new in group for group in GROUPS) and not imported(self.new, text):
+            name = self.new if self.new.isalpha() else f"◌{self.new}◌"
+            text = text.replace(PRELUDE, f"{PRELUDE}{name}, ", 1)
         return text
 
 
@@ -94,7 +99,7 @@ class Definitions:
                 if kind == "struct":
                     self.records.append({field: in_logic(of) for field, of in re.findall(r"pub (\w+): (\w+)", body)})
                 else:
-                    self.modules[crate, f"declared.{path.stem}.{name}.the-variants"] = {
+                    self.modules[crate, f"declared.{path.stem}.{name}.TheVariants"] = {
                         variant: Name(" → ".join([in_logic(of) for of in re.findall(r"\w+: (\w+)", fields)] + [name]), constructor=True)
                         for variant, fields in re.findall(r"^    (\w+)(.*),$", body, re.M)}
 
@@ -104,9 +109,9 @@ class Definitions:
         scope = {}
         for item in re.finditer(r"^\S.*\n(?:(?:[ \t].*)?\n)*", text, re.M):
             words = item[0]
-            if imported := re.match(r"use (?:Rattle·(\w+)(?:·specs)?\.specs\.)?([\w.-]+)\.\{(.*)\}", words):
-                known = self.modules.get((imported[1], imported[2]), {})
-                for name, _, alias in (one.partition(" as ") for one in imported[3].split(", ")):
+            if of := re.match(r"use Rattle\.(\w+)\.specs\.([\w.]+)\.\{(.*)\}", words):
+                known = self.modules.get((of[1], of[2]), {})
+                for name, _, alias in (one.partition(" as ") for one in of[3].split(", ")):
                     if name in known:
                         scope[alias or name] = known[name]
             elif re.match(r"pub data ", words):
@@ -177,6 +182,6 @@ class Definitions:
             old = names[token]
             return [n for n in sorted(names) if n != token and n not in local and names[n].type == old.type != "Type 0"
                     and (old.value is None or names[n].value != old.value)]
-        if f"use {MODULES.get(token)}.{{" not in text:
+        if not imported(token, text):
             return []
-        return [t for group in GROUPS[MODULES[token]] if token in group.split() for t in group.split() if t != token]
+        return [other for group in GROUPS if token in group for other in group if other != token]

@@ -1,12 +1,12 @@
-"""What .ci/check-arrays reads: the functions that `rt mir` prints, with the types of their locals and the functions that they call.
+"""What .ci/check-arrays reads: the functions of libraries as rattle has built them, with the types of their locals and the functions that
+they call. Their MIR lies in the library's folder, out/rlib/NAME.rlib/toolchain/mir.json; from it rattle compiles what it links.
 
 A form that is not known is a fault, so that nothing is passed over.
 """
-import re
-import subprocess
+import json
 from typing import NamedTuple
 
-from sources import ROOT, Fault
+from sources import ROOT, Fault, with_dependencies
 
 POINTER = 8     # bytes; a usize has as many
 
@@ -36,169 +36,142 @@ class Function(NamedTuple):
 
 
 # The MIR does not tell a signed number from an unsigned one, nor a usize from a u64.
-NUMBERS = {"8": Plain("u8", 1), "16": Plain("u16", 2), "32": Plain("u32", 4), "64": Plain("u64", 8)}
-WORDS = {"tyBool": Plain("bool", 1), "tyUnit": Plain("()", 0), "tyPtr": Plain("a pointer", POINTER)}
+NUMBERS = {8: Plain("u8", 1), 16: Plain("u16", 2), 32: Plain("u32", 4), 64: Plain("u64", 8)}
+WORDS = {"Bool": Plain("bool", 1), "Unit": Plain("()", 0), "Ptr": Plain("a pointer", POINTER)}
 REFERENCE = Plain("a reference", POINTER)
-TOKEN = re.compile(r'"[^"\\]*"|[()]|[^\s()"]+')
+HOMES = ("ValueLocal", "MemorySlot")
+# The words of a function's body that call nothing, name no function and declare no local.
+BODY = set("""
+    Seq Skip Return If Switch Block Loop Exit Assign
+    local steps Field Variant Deref Copy AddrOf Aggregate Repeat Lit Opd Op1 Op2 Offset
+    Int width value Float bits Unit True False Unsigned Cast Not And Or Xor Shl Shr Add Sub Mul Div Rem Eq Ne Lt Le CountOnes FloatLt
+    """.split())
 
 
 # ---- forms
 
-def shown(form, depth=3):
-    """A form for a message, without what lies deep in it."""
-    if isinstance(form, str):
-        return form
-    return f"({' '.join(shown(part, depth - 1) for part in form)})" if depth else "(..)"
+def shown(form):
+    """A form for a message."""
+    text = json.dumps(form)
+    return text if len(text) <= 100 else text[:100] + ".."
 
 
-def parsed(text):
-    """The forms of a text: words, and lists of forms."""
-    if rest := TOKEN.sub("", text).strip():
-        raise Fault(f"rt mir: text that is not known: {rest[:40]!r}")
-    open_forms = [[]]
-    for word in TOKEN.findall(text):
-        if word == "(":
-            open_forms.append([])
-        elif word != ")":
-            open_forms[-1].append(word)
-        elif len(open_forms) == 1 or not open_forms[-1]:
-            raise Fault("rt mir: a bracket that closes nothing")
-        else:
-            form = open_forms.pop()
-            open_forms[-1].append(form)
-    if len(open_forms) != 1:
-        raise Fault("rt mir: a bracket is not closed")
-    return open_forms[0]
+def part(form, head, kind, count=None):
+    """What stands in a form under its one word, of a kind, and of so many parts."""
+    if isinstance(form, dict) and list(form) == [head]:
+        found = form[head]
+        if type(found) is kind and (count is None or len(found) == count):
+            return found
+    raise Fault(f"MIR: not a form {head}: {shown(form)}")
 
 
-def parts(form, head, count):
-    """The parts of a form behind its head, which are so many."""
-    if isinstance(form, str) or form[0] != head or len(form) != count + 1:
-        raise Fault(f"rt mir: not a form {head} of {count}: {shown(form)}")
-    return form[1:]
-
-
-def items(form, kind="l"):
-    """The elements of a list, (lcons .. (lcons .. lnil)); kind t: of types, tt: of lists of types."""
-    found = []
-    while form != f"{kind}nil":
-        first, form = parts(form, f"{kind}cons", 2)
-        found.append(first)
-    return found
-
-
-def quoted(form):
-    if not isinstance(form, str) or not form.startswith('"'):
-        raise Fault(f"rt mir: not a name: {shown(form)}")
-    return form.strip('"')
-
-
-def number(form):
-    if not isinstance(form, str) or not form.isdecimal():
-        raise Fault(f"rt mir: not a number: {shown(form)}")
-    return int(form)
+def field(form, name, kind):
+    """A field of a record of the MIR."""
+    if not isinstance(form, dict) or type(form.get(name)) is not kind:
+        raise Fault(f"MIR: no field {name}: {shown(form)}")
+    return form[name]
 
 
 # ---- types
 
 def named_type(form, definitions):
     """A declared struct or enum. An enum's tag is one byte: so the kit's logic lays it out."""
-    name, arguments = parts(form, "pair", 2)
-    name = quoted(name)
-    if arguments != "lnil" or name not in definitions:
-        raise Fault(f"rt mir: a type that has arguments or no definition: {shown(form)}")
-    definition = definitions[name]
-    if definition[0] == "fields":
-        return Shape(name, 0, [types(parts(definition, "fields", 1)[0], definitions)])
-    (variants,) = parts(definition, "variants", 1)
-    return Shape(name, 1, [types(fields, definitions) for fields in items(variants, "tt")])
+    head, arguments = part(form, "Named", list, 2)
+    name = field(head, "name", str)
+    if arguments or name not in definitions:
+        raise Fault(f"MIR: a type that has arguments or no definition: {shown(form)}")
+    shape = field(definitions[name], "shape", dict)
+    if list(shape) == ["Fields"]:
+        return Shape(name, 0, [types(part(shape, "Fields", list), definitions)])
+    return Shape(name, 1, [types(fields, definitions) for fields in part(shape, "Variants", list)])
 
 
-def types(form, definitions):
-    return [type_of(one, definitions) for one in items(form, "t")]
+def types(forms, definitions):
+    return [type_of(one, definitions) for one in forms]
 
 
 def type_of(form, definitions):
-    head = form if isinstance(form, str) else form[0]
-    if form is head and head in WORDS:
-        return WORDS[head]
-    if head == "tyInt" and parts(form, head, 1)[0] in NUMBERS:
-        return NUMBERS[form[1]]
-    if head == "tyRef":
+    if isinstance(form, str) and form in WORDS:
+        return WORDS[form]
+    head = next(iter(form)) if isinstance(form, dict) and form else None
+    if head == "Int" and part(form, head, int) in NUMBERS:
+        return NUMBERS[form[head]]
+    if head == "Ref":
         return REFERENCE
-    if head == "tyArray":
-        element, length = parts(form, head, 2)
-        return Array(type_of(element, definitions), number(parts(length, "lenLit", 1)[0]))
-    if head == "tyStruct":
-        name, fields = parts(form, head, 2)
-        return Shape(quoted(name), 0, [types(fields, definitions)])
-    if head == "tyNamed":
-        return named_type(parts(form, head, 1)[0], definitions)
-    raise Fault(f"rt mir: a type that is not known: {shown(form)}")
+    if head == "Array":
+        element, length = part(form, head, list, 2)
+        return Array(type_of(element, definitions), part(length, "Lit", int))
+    if head == "Struct":
+        name, fields = part(form, head, list, 2)
+        return Shape(name, 0, [types(fields, definitions)])
+    if head == "Named":
+        return named_type(form, definitions)
+    raise Fault(f"MIR: a type that is not known: {shown(form)}")
 
 
 # ---- functions
 
+def callee(form, at):
+    """The function that is called by name, with no types to fill in."""
+    name, filled = part(form, "Fn", list, 2)
+    if filled != {"types": [], "dicts": []}:
+        raise Fault(f"MIR: {at} has a call of what is not known: {shown(form)}")
+    return name
+
+
 def calls(body, at):
-    """The functions that a body calls, in their order. It may have the name of a function nowhere else, and declare no local."""
+    """The functions that a body calls, in their order. The type behind a Deref is that of what a pointer leads to, and no local."""
     found, todo = [], [body]
     while todo:
         form = todo.pop()
-        if isinstance(form, str):
-            continue
-        if form[0] in ("fnRef", "local"):
-            raise Fault(f"rt mir: {at} has a form that is not known here: {shown(form)}")
-        if form[0] == "call":
-            callee, arguments, result = parts(form, "call", 3)
-            if callee[0] != "direct":
-                raise Fault(f"rt mir: {at} has a call of what is not known: {shown(callee)}")
-            found.append(quoted(parts(parts(callee, "direct", 1)[0], "fnRef", 1)[0]))
-            form = [arguments, result]
-        todo += reversed(form)
+        if isinstance(form, list):
+            todo += reversed(form)
+        elif isinstance(form, dict) and list(form) == ["Call"]:
+            called, *others = part(form, "Call", list, 3)
+            found.append(callee(called, at))
+            todo += reversed(others)
+        elif isinstance(form, dict):
+            todo += [*(form[word] for word in reversed(form) if word != "Deref"), *form]
+        elif isinstance(form, str) and form not in BODY:
+            raise Fault(f"MIR: {at} has a form that is not known here: {form}")
     return found
 
 
-def function_of(form):
-    """The name and the function of (fn-def name item) or, where it has structs or enums, (fn-def name item definitions)."""
-    name, item, *rest = parts(form, "fn-def", 3 if len(form) == 4 else 2)
-    name = quoted(name)
-    definitions = {}
-    for pair in items(rest[0] if rest else "lnil"):
-        defined, definition = parts(pair, "pair", 2)
-        definitions[quoted(defined)] = definition
-    _, _, parameters, variables, body = parts(item, "fnItem", 5)
+def function_of(name, form):
+    definitions = {field(one, "name", str): one for one in field(form, "types", list)}
+    if field(field(form, "generics", dict), "types", list):
+        raise Fault(f"MIR: {name} has type parameters")
     kinds = []
-    for local in items(variables):
-        kind, place = parts(local, "local", 2)
-        if place not in ("valueLocal", "memorySlot"):
-            raise Fault(f"rt mir: {name} has a local that is not known: {shown(local)}")
-        kinds.append(type_of(kind, definitions))
-    return name, Function(number(parameters), kinds, calls(body, name))
+    for local in field(form, "locals", list):
+        if field(local, "home", str) not in HOMES:
+            raise Fault(f"MIR: {name} has a local that is not known: {shown(local)}")
+        kinds.append(type_of(local.get("ty"), definitions))
+    return Function(field(form, "params", int), kinds, calls(field(form, "body", list), name))
 
 
-def printed(crate):
-    """What rt mir prints for a crate: the forms of its functions and of those below it, by name. It proves the crates below first."""
-    done = subprocess.run(["rt", "mir", crate], cwd=ROOT, capture_output=True, text=True, check=False)
-    if done.returncode != 0:
-        raise Fault(f"rt mir {crate} ended with {done.returncode}:\n{done.stderr.strip()}")
-    program, listed, _ = parts(["text", *parsed(done.stdout)], "text", 3)
-    if program != "program":
-        raise Fault(f"rt mir {crate}: not a program: {shown(program)}")
-    return {quoted(form[1]): form for form in items(listed)}
+def built(crate):
+    """The forms of the functions of a crate and of the crates below it, by name, as they were last built."""
+    found = {}
+    for name in with_dependencies(crate):
+        path = ROOT / "crates" / name / "out" / "rlib" / f"{name}.rlib" / "toolchain" / "mir.json"
+        if not path.is_file():
+            raise Fault(f"{name} is not built: .ci/archive builds it")
+        found.update(json.loads(path.read_text(encoding="utf-8")))
+    return found
 
 
 def reached(start, apart):
     """The functions that a function calls, and those that they call, with itself, by name, in the order in which they are met; but for
     the function `apart`, and what only that calls."""
     crate = start.partition("::")[0]
-    forms = printed(crate)
+    forms = built(crate)
     found, todo = {}, [start]
     while todo:
         name = todo.pop()
         if name in found or name == apart:
             continue
         if name not in forms:
-            raise Fault(f"rt mir {crate} has no function {name}")
-        _, found[name] = function_of(forms[name])
+            raise Fault(f"the MIR of {crate} and the crates below has no function {name}")
+        found[name] = function_of(name, forms[name])
         todo += reversed(found[name].calls)
     return found

@@ -27,7 +27,7 @@ class Prototype(NamedTuple):
 class Function(NamedTuple):
     where: str          # file:line
     name: str
-    exported: bool      # has #[no_mangle]
+    exported: bool      # has #[unsafe(no_mangle)]
     foreign: bool       # extern "C"
     public: bool
     parameters: list
@@ -153,7 +153,7 @@ def functions(path):
             place = end_of_group(text, clause.end())
         body = text.index("{", place)
         found.append(Function(
-            f"{where}:{line}", match["name"], "#[no_mangle]" in match["marks"], bool(match["foreign"]), bool(match["public"]),
+            f"{where}:{line}", match["name"], "#[unsafe(no_mangle)]" in match["marks"], bool(match["foreign"]), bool(match["public"]),
             parameters, rattle_type(result[1] or ""), text[body:end_of_group(text, body)]))
         place = body
     if len(re.findall(r'\bextern\s+"C"', text)) != sum(f.foreign for f in found):
@@ -169,10 +169,26 @@ def crate_files(crate):
     return files
 
 
+def passed_on(crate, below):
+    """The functions of a crate that exports those of the one below: each calls the function of its name there, with each of its parameters once, in
+    their order, and does nothing else."""
+    found = [f for path in crate_files(crate) for f in functions(path)]
+    for function in found:
+        call = f"{below}::{function.name}({', '.join(p.name for p in function.parameters)})"
+        if re.sub(r"\s", "", function.body).replace(",)", ")") != "{" + call.replace(" ", "") + "}":
+            raise Fault(f"{function.where}: {function.name} is not {call} and nothing else")
+    return found
+
+
+def listed_crates():
+    """The crates of crates.txt in their order, each with those that it depends on. Behind a name may stand what is made of it: staticlib."""
+    lines = [line.partition("#")[0] for line in (ROOT / "crates.txt").read_text(encoding="utf-8").splitlines()]
+    return {head.split()[0]: rest.split() for head, colon, rest in (line.partition(":") for line in lines) if colon}
+
+
 def with_dependencies(crate):
     """The crate and those below it, by crates.txt."""
-    lines = [line.partition("#")[0] for line in (ROOT / "crates.txt").read_text().splitlines()]
-    listed = {name.strip(): rest.split() for name, colon, rest in (line.partition(":") for line in lines) if colon}
+    listed = listed_crates()
     reached, todo = [], [crate]
     while todo:
         name = todo.pop()

@@ -19,6 +19,8 @@
  *  14: a load through a mailbox pointer
  *  15: a load through a mailbox pointer
  *  16: a store through a private-area pointer
+ *  17: a byte may be loaded twice
+ *  18: a loop may load a byte twice
  */
 #include "sct_disk.h"
 
@@ -29,6 +31,35 @@ __attribute__((noinline)) static void copy(uint8_t *to, const uint8_t *from)
 {
     for (size_t i = 0; i < SCT_MAILBOX_BYTES; i++)
         to[i] = from[i];
+}
+
+#define BLOCK(i) __builtin_memcpy(slot + 16 * (i), moved + 16 * (i), 16)
+#define BLOCKS(i) BLOCK(i), BLOCK(i + 1), BLOCK(i + 2), BLOCK(i + 3), BLOCK(i + 4)
+
+/*
+ * Port 3: copied in a straight run, from an address that is the mailbox's own
+ * or, for NULL, another one, as the archive has it.
+ */
+static inline void straight(uint8_t *slot, const uint8_t *mailbox)
+{
+    const uint8_t *moved = mailbox + ((size_t)(mailbox == NULL) << 12);
+
+    BLOCKS(0), BLOCKS(5), BLOCKS(10), BLOCKS(15), BLOCKS(20), BLOCKS(25), BLOCKS(30);
+    BLOCKS(35), BLOCKS(40), BLOCKS(45), BLOCKS(50), BLOCKS(55), BLOCKS(60);
+    if (WRONG == 17)
+        slot[2] = *(volatile const uint8_t *)(moved + 2);   /* Count, fetched again */
+}
+
+/* By steps that are not known: a step of 0 or 1 loads a byte again. */
+static inline void by_steps(uint8_t *slot, const uint8_t *mailbox, const uint8_t *steps)
+{
+    const volatile uint8_t *moved = mailbox;
+
+    for (size_t i = 0; i < SCT_PORTS; i++) {
+        moved += steps[i];
+        slot[2 * i] = moved[0];
+        slot[2 * i + 1] = moved[1];
+    }
 }
 
 uint32_t sct_take(uint8_t *device, size_t device_length,
@@ -48,6 +79,14 @@ uint32_t sct_take(uint8_t *device, size_t device_length,
         return SCT_BAD_STAGE;
     if (WRONG == 2) {
         copy(slot, mailbox);                        /* in a function of its own */
+        return SCT_DONE;
+    }
+    if (WRONG == 18) {
+        by_steps(slot, mailbox, device);
+        return SCT_DONE;
+    }
+    if ((WRONG == 0 || WRONG == 17) && port == 3) {
+        straight(slot, mailbox);
         return SCT_DONE;
     }
     for (size_t i = 0; i < SCT_MAILBOX_BYTES; i++) {
