@@ -12,6 +12,7 @@ LETTERS = {"rax": "a", "rbx": "b", "rcx": "c", "rdx": "d"}
 
 NOTHING = re.compile(r"nop|endbr64|xchg ax,ax")
 JUMP = re.compile(r"j(?!r?cxz|ecxz)\w+")
+UNREACHED = "ud2"           # where the code is proved not to come: a way ends there, and gives no answer
 
 
 def register_parts():

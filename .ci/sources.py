@@ -7,6 +7,8 @@ from typing import NamedTuple
 ROOT = Path(__file__).resolve().parent.parent
 HEADER = ROOT / "include" / "sct_disk.h"
 CONVENTION = "SCT_CALL"     # the header's macro for the calling convention, which every prototype needs
+# How an outcome becomes a number, where it is more than done or refused.
+NUMBERED = {"sct_work": "result_of({})", "sct_repair": "result_of({}.map(|report| report as u32))"}
 
 
 class Fault(Exception):
@@ -171,10 +173,11 @@ def crate_files(crate):
 
 def passed_on(crate, below):
     """The functions of a crate that exports those of the one below: each calls the function of its name there, with each of its parameters once, in
-    their order, and does nothing else."""
+    their order, gives the outcome by number, and does nothing else."""
     found = [f for path in crate_files(crate) for f in functions(path)]
     for function in found:
-        call = f"{below}::{function.name}({', '.join(p.name for p in function.parameters)})"
+        parameters = ", ".join(p.name for p in function.parameters)
+        call = NUMBERED.get(function.name, "answer_of({})").format(f"{below}::{function.name}({parameters})")
         if re.sub(r"\s", "", function.body).replace(",)", ")") != "{" + call.replace(" ", "") + "}":
             raise Fault(f"{function.where}: {function.name} is not {call} and nothing else")
     return found

@@ -94,8 +94,8 @@ extern "C" {
 #define SCT_NATIVE_LIMIT     UINT64_C(16777216) /* sectors */
 #define SCT_FORM_1           1u                 /* entries without timers */
 #define SCT_FORM_2           2u                 /* with them */
-#define SCT_STACK_BYTES      859u               /* of stack, for any call */
-#define SCT_STACK_AT_MEMSET  696u               /* of these, in use where memset begins */
+#define SCT_STACK_BYTES      832u               /* of stack, for any call */
+#define SCT_STACK_AT_MEMSET  664u               /* of these, in use where memset begins */
 
 /* ---- Answers ------------------------------------------------------------- */
 

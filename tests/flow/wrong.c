@@ -21,6 +21,8 @@
  *  16: a store through a private-area pointer
  *  17: a byte may be loaded twice
  *  18: a loop may load a byte twice
+ *  19: no return
+ *  20: mailbox bytes stored through a plain value
  */
 #include "sct_disk.h"
 
@@ -31,6 +33,19 @@ __attribute__((noinline)) static void copy(uint8_t *to, const uint8_t *from)
 {
     for (size_t i = 0; i < SCT_MAILBOX_BYTES; i++)
         to[i] = from[i];
+}
+
+/* Where the code is proved not to come. */
+static inline void unreached(void)
+{
+    __asm__ volatile("ud2");
+    __builtin_unreachable();
+}
+
+/* Not inlined, so that no way returns from it. */
+__attribute__((noinline)) static void never(void)
+{
+    unreached();
 }
 
 #define BLOCK(i) __builtin_memcpy(slot + 16 * (i), moved + 16 * (i), 16)
@@ -75,6 +90,14 @@ uint32_t sct_take(uint8_t *device, size_t device_length,
         return SCT_BAD_LENGTH;
     if (port >= SCT_PORTS)
         return SCT_BAD_PORT;
+    if (WRONG == 0 && area == NULL)
+        unreached();
+    if (WRONG == 19 && area == NULL)
+        never();                                    /* called */
+    if (WRONG == 20 && area == NULL) {
+        device[22] = mailbox[16];                   /* in the record, on the way to ud2 */
+        unreached();
+    }
     if (WRONG == 1 && mailbox[COMMAND] == 0)        /* judged in the mailbox */
         return SCT_BAD_STAGE;
     if (WRONG == 2) {

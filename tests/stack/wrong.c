@@ -14,7 +14,7 @@
  *   0: sct_repair 56 104 0
  *   0: sct_save 8 8 8
  *   0: sct_power_on 24 104 0
- *   0: sct_convert 16 16 0
+ *   0: sct_convert 24 24 0
  *
  * Each other number is a wrong program, which it must refuse with these words:
  *
@@ -76,7 +76,8 @@ FUNCTION(sct_repair, "push %rbx\n test %edi, %edi\n je .Lmeet\n"
          ".Lmeet: pop %rbx\n ret\n");
 FUNCTION(sct_save, "jmp memset\n");
 FUNCTION(sct_power_on, "lea -0x60(%rsp), %rax\n call leaf\n ret\n");
-FUNCTION(sct_convert, ".Lagain: push %rax\n pop %rax\n dec %edi\n jne .Lagain\n ret\n");
+FUNCTION(sct_convert, ".Lagain: push %rax\n pop %rax\n dec %edi\n jne .Lagain\n test %esi, %esi\n je .Lunreached\n ret\n"
+         ".Lunreached: push %rax\n push %rax\n ud2\n");
 
 /* ---- Wrong functions in assembly ----------------------------------------------- */
 

@@ -18,6 +18,12 @@ unfolding hex_digits
 length-hex zero v = refl
 length-hex (suc k) v = length-append (hex_digits k (v / 16)) (hex_digit (v % 16) ∷ []) ∙ rw (length-hex k (v / 16)) (omega arith)
 
+-- the digits of v / 16, and then the last one
+pub hex-more : (k v : ℕ) → 0 < k → hex_digits (k - 1) (v / 16) ++ hex_digit (v % 16) ∷ [] ≡ hex_digits k v
+unfolding hex_digits
+hex-more zero v some = absurd (omega arith)
+hex-more (suc k) v some = let e : suc k - 1 ≡ k = omega arith in rw e
+
 -- the high j digits and then the low k ones
 hex-join : (j k v : ℕ) → hex_digits j (v / 16 ^ k) ++ hex_digits k v ≡ hex_digits (j + k) v
 unfolding hex_digits
@@ -79,6 +85,10 @@ decimal-most (suc k) v h =
     go : (b : Bool) → ltb v 10 ≡ b → length (decimal_digits (v / 10)) ≤ suc k → length (decimal_digits v) ≤ suc (suc k)
     go true e rest = rw (decimal-small v (ltb-true v 10 e)) (omega arith)
     go false e rest = rw (decimal-more v (ltb-false v 10 e), length-append) (omega arith)
+
+-- so a number of 64 bits, after a text, has at most 20
+pub decimal-room-after : (text : List ℕ) (v : ℕ) → v < 2 ^ 64 → length (text ++ decimal_digits v) ≤ length text + 20
+decimal-room-after text v h = rw length-append (omega (arith, decimal-most 19 v (omega arith)))
 
 -- ---- what decimal digits mean
 

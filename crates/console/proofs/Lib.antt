@@ -2,3 +2,4 @@
 pub mod DigitsLaws
 pub mod WroteLaws
 pub mod RecordsLaws
+pub mod ReadLaws

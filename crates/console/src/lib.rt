@@ -5,5 +5,5 @@
 mod input;
 mod line;
 
-pub use input::{Arrival, arrived, read_full};
-pub use line::{put_byte, put_decimal, put_hex2, put_hex4, put_text};
+pub use input::{Arrival, read_full, read_record};
+pub use line::Line;

@@ -16,6 +16,7 @@ use decision::{Decision, replied};
 use key::Verdict;
 use layout::{MAILBOX, REGISTERS, sct};
 use record::Device;
+use wire::Number;
 
 // The device with its fill stopped, and the words of the key at `at` recorded.
 fn recorded(area: &[u8], at: usize, d: Device) -> Device
@@ -25,8 +26,8 @@ fn recorded(area: &[u8], at: usize, d: Device) -> Device
     let stopped = device_update::interrupt(d);
     device_update::with_key(
         stopped,
-        wire::u16_at(area, at),
-        wire::u16_at(area, at + sct::FUNCTION_AT),
+        u16::get(area, at),
+        u16::get(area, at + sct::FUNCTION_AT),
     )
 }
 

@@ -2,17 +2,14 @@
 ghost use Rattle.std.specs.Prelude.{◌≡◌, ◌≤◌, length};
 ghost use Rattle.model.specs.Disk.{disk_of};
 ghost use Rattle.store.specs.Areas.{record_size};
-ghost use Rattle.console.specs.Text.{Begins, Wrote};
 ghost use Rattle.desk_session.specs.Turn.{Turned, served, given, worked, line_of};
 
-use crate::report::put_report;
+use crate::report::{LINE, report};
+use console::Line;
 use layout::ata;
 use sct_disk::{sct_give, sct_serve, sct_take, sct_work};
 
-// The result of a work has the answer in bits 32 to 63, the sectors written in bits 0 to 31.
-const ANSWER: u64 = 4294967296;
-
-// "Each is taken, served, given, then worked." Returns how many sectors the work wrote.
+// "Each is taken, served, given, then worked.", whether a step is refused or not. Returns how many sectors the work wrote.
 fn exchange(
     device: &mut [u8],
     area: &mut [u8],
@@ -23,16 +20,15 @@ fn exchange(
 ) -> u64
     ensures { Turned device.old area.old (disk_of disk.old check_area.old) mailbox.old n result device.new area.new (disk_of disk.new check_area.new) mailbox.new }
 {
-    sct_take(device, 0, mailbox, area);
-    sct_serve(device, 0, area, disk, check_area);
-    sct_give(device, 0, mailbox, area);
-    let result = sct_work(device, area, disk, check_area, n as u32);
-    result % ANSWER
+    let _ = sct_take(device, 0, mailbox, area);
+    let _ = sct_serve(device, 0, area, disk, check_area);
+    let _ = sct_give(device, 0, mailbox, area);
+    let written = sct_work(device, area, disk, check_area, u32::from(n));
+    u64::from(written.unwrap_or(0))
 }
 
-// Processes record `number`, a work count and a mailbox: writes its line and returns the line's length.
+// Processes record `number`, a work count and a mailbox, on areas and a disk of any length. Returns its line.
 pub fn turn(
-    line: &mut [u8],
     number: u64,
     n: u8,
     mailbox: &mut [u8],
@@ -40,12 +36,10 @@ pub fn turn(
     area: &mut [u8],
     disk: &mut [u8],
     check_area: &mut [u8],
-) -> usize
-    requires in_bounds { 64 ≤ length line.old }
-    requires in_bounds_2 { 14 ≤ length mailbox.old }
+) -> Line<LINE>
+    requires in_bounds { 14 ≤ length mailbox.old }
     requires device_len { length device.old ≡ record_size }
-    ensures begins { Begins result line.new }
-    ensures wrote { Wrote line.old 0 (line_of device.old area.old (disk_of disk.old check_area.old) mailbox.old n number) result line.new }
+    ensures line { result ≡ line_of device.old area.old (disk_of disk.old check_area.old) mailbox.old n number }
     ensures device { device.new ≡ (worked device.old area.old (disk_of disk.old check_area.old) mailbox.old n).record_area }
     ensures area { area.new ≡ (served device.old area.old (disk_of disk.old check_area.old) mailbox.old n).private_area }
     ensures disk { disk_of disk.new check_area.new ≡ (worked device.old area.old (disk_of disk.old check_area.old) mailbox.old n).disk }
@@ -53,8 +47,7 @@ pub fn turn(
 {
     let written = exchange(device, area, disk, check_area, mailbox, n);
     let code = record::code_at(device);
-    put_report(
-        line,
+    report(
         number,
         mailbox[ata::STATUS_AT],
         mailbox[ata::ERROR_AT],

@@ -15,7 +15,7 @@ use decision::Writing;
 use layout::{CHECK_U64, MAILBOX, REGISTERS, SECTOR, SECTOR_U64};
 use record::Device;
 use sector_check::check_of;
-use wire::{put_u16, u16_at};
+use wire::Number;
 
 // Writes the sector of the private area at `at`, with this check number, to the sector at an LBA.
 fn store(area: &[u8], at: usize, check: u16, disk: &mut [u8], check_area: &mut [u8], lba: u64)
@@ -23,7 +23,7 @@ fn store(area: &[u8], at: usize, check: u16, disk: &mut [u8], check_area: &mut [
     ensures { disk_of disk.new check_area.new ≡ with_sector lba (record { content = part area.now at sector_size; check = check }) (disk_of disk.old check_area.old) }
 {
     runs::copy_part(disk, (SECTOR_U64 * lba) as usize, area, at, SECTOR);
-    put_u16(check_area, (CHECK_U64 * lba) as usize, check);
+    check.put(check_area, (CHECK_U64 * lba) as usize);
 }
 
 // An ordinary write, of the data of slot p: "Every ordinary write sets them."
@@ -42,7 +42,7 @@ fn write_long(area: &[u8], disk: &mut [u8], check_area: &mut [u8], p: usize, lba
     ensures { disk_of disk.new check_area.new ≡ with_sector lba (long_data_of (slot_bytes p area.now)) (disk_of disk.old check_area.old) }
 {
     let at = MAILBOX * p + REGISTERS;
-    let check = u16_at(area, at + SECTOR);
+    let check = u16::get(area, at + SECTOR);
     store(area, at, check, disk, check_area, lba);
 }
 

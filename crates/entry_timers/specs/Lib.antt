@@ -1,2 +1,2 @@
--- What the enum of saved timers means.
+-- What the timers and the form mean.
 pub mod TimersMeaning

@@ -1,8 +1,9 @@
-// The recovery timers of an entry of the saved image (W-204): the enum, its meaning in numbers, and its bytes (timers.rt).
+// The recovery timers of an entry of the saved image (W-204): as an Option and as its bytes, and the forms of an entry (timers.rt).
 #![tactic(auto)]
 
 mod timers;
 
 pub use timers::{
-    SavedTimers, form_of, put_timers, read_timer, timers_at, timers_in, timers_named, write_timer,
+    Form, Timers, UnknownForm, form_of, put_timers, timers_at, timers_in, timers_meant,
+    timers_named,
 };

@@ -1,107 +1,121 @@
 // What an entry holds of the recovery timers (W-204), read, judged and written.
 ghost use Rattle.std.specs.Prelude.{◌≡◌, ◌+◌, ◌≤◌, length};
-ghost use Rattle.wire.specs.Numbers.{put};
 ghost use Rattle.wire.specs.Layout.{stores, placed};
 ghost use Rattle.model.specs.Sizes.{body_size};
-ghost use Rattle.model.specs.Image.{form_of, timers_in, timers_meant, form_place, read_timer_place, write_timer_place, timer_fields, timers_at, timers_named};
-ghost use Rattle.entry_timers.specs.TimersMeaning.{as_timers};
+ghost use Rattle.model.specs.Image.{form_of, timers_in, timers_meant, timer_numbers, timer_fields, timers_at, timers_named};
+ghost use Rattle.entry_timers.specs.TimersMeaning.{form_number, IsForm, as_timers};
 
-use layout::entry;
+use layout::{ENTRY, entry};
 use record::Settings;
+use wire::Number;
 
-// Form 1 leaves the timers out; form 2 has the read and the write timer.
-#[derive(Clone, Copy)]
-pub enum SavedTimers {
-    LeftOut,
-    Stored(u16, u16),
+// The read and the write timer of an entry of form 2. An entry of form 1 has none.
+#[derive(Clone, Copy, Debug, PartialEq, Eq)]
+pub struct Timers {
+    pub read: u16,
+    pub write: u16,
 }
 
-// The form of an entry with these timers, by its number.
-pub fn form_of(timers: SavedTimers) -> u32
-    ensures { result ≡ form_of (as_timers timers) }
+impl Timers {
+    // W-203: "Both error recovery timers shall be 70 (7 seconds) at power-on."
+    pub const AT_POWER_ON: Timers = Timers {
+        read: Settings::POWER_ON_TIMER,
+        write: Settings::POWER_ON_TIMER,
+    };
+}
+
+// The forms of an entry, by their numbers: "form 1 leaves the timers out"
+#[derive(Clone, Copy, Debug, PartialEq, Eq)]
+pub enum Form {
+    One = 1,
+    Two = 2,
+}
+
+// A number that no form has.
+#[derive(Clone, Copy, Debug, PartialEq, Eq)]
+pub struct UnknownForm(pub u32);
+
+impl TryFrom<u32> for Form {
+    type Error = UnknownForm;
+
+    ghost try_from_gives = { IsForm };
+
+    fn try_from(number: u32) -> Result<Self, UnknownForm> {
+        match number {
+            1 => Ok(Form::One),
+            2 => Ok(Form::Two),
+            _ => Err(UnknownForm(number)),
+        }
+    }
+}
+
+// The form of an entry with these timers.
+pub fn form_of(timers: Option<Timers>) -> Form
+    ensures { form_number result ≡ form_of (as_timers timers) }
 {
     match timers {
-        SavedTimers::LeftOut => entry::FORM_1,
-        SavedTimers::Stored(_, _) => entry::FORM_2,
+        None => Form::One,
+        Some(_) => Form::Two,
     }
 }
 
 // "form 1 leaves the timers out"
-pub fn timers_in(form: u32, for_read: u16, for_write: u16) -> SavedTimers
-    ensures { as_timers result ≡ timers_in form for_read for_write }
+pub fn timers_in(form: Form, timers: Timers) -> Option<Timers>
+    ensures { as_timers result ≡ timers_in (form_number form) timers.read timers.write }
 {
-    if form == entry::FORM_1 {
-        SavedTimers::LeftOut
-    } else {
-        SavedTimers::Stored(for_read, for_write)
+    match form {
+        Form::One => None,
+        Form::Two => Some(timers),
     }
 }
 
-// "Form 1 .. means 70 and 70": the read timer,
-pub fn read_timer(timers: SavedTimers) -> u16
-    ensures { result ≡ (timers_meant (as_timers timers)).0 }
+// "Form 1 .. means 70 and 70"
+pub fn timers_meant(timers: Option<Timers>) -> Timers
+    ensures { (result.read, result.write) ≡ timers_meant (as_timers timers) }
 {
-    match timers {
-        SavedTimers::LeftOut => Settings::POWER_ON_TIMER,
-        SavedTimers::Stored(for_read, _) => for_read,
-    }
-}
-
-// and the write timer.
-pub fn write_timer(timers: SavedTimers) -> u16
-    ensures { result ≡ (timers_meant (as_timers timers)).1 }
-{
-    match timers {
-        SavedTimers::LeftOut => Settings::POWER_ON_TIMER,
-        SavedTimers::Stored(_, for_write) => for_write,
-    }
+    timers.unwrap_or(Timers::AT_POWER_ON)
 }
 
 // "A saved timer of 1 to 9 is out of range."
-pub fn timers_named(timers: SavedTimers) -> bool
+pub fn timers_named(timers: Option<Timers>) -> bool
     ensures { result ≡ timers_named (as_timers timers) }
 {
     match timers {
-        SavedTimers::LeftOut => true,
-        SavedTimers::Stored(for_read, for_write) => {
-            record_check::timer_named(for_read) & record_check::timer_named(for_write)
-        }
+        None => true,
+        Some(t) => record_check::timer_named(t.read) & record_check::timer_named(t.write),
     }
 }
 
-// The timers of the body at `at`.
-pub fn timers_at(image: &[u8], at: usize) -> SavedTimers
-    requires { at + body_size ≤ length image.now }
-    ensures { as_timers result ≡ timers_at image.now at }
+// The timers of an entry.
+pub fn timers_at(entry: &[u8; ENTRY]) -> Option<Timers>
+    ensures { as_timers result ≡ timers_at entry.now 0 }
 {
-    let form = wire::u8_at(image, at + entry::FORM_AT);
-    if form != entry::WITH_TIMERS {
-        return SavedTimers::LeftOut;
+    if u8::get(entry, entry::FORM_AT) != entry::WITH_TIMERS {
+        return None;
     }
-    let for_read = wire::u16_at(image, at + entry::READ_TIMER_AT);
-    let for_write = wire::u16_at(image, at + entry::WRITE_TIMER_AT);
-    SavedTimers::Stored(for_read, for_write)
+    Some(Timers {
+        read: u16::get(entry, entry::READ_TIMER_AT),
+        write: u16::get(entry, entry::WRITE_TIMER_AT),
+    })
 }
 
-// Writes byte 25 of the body at `at`, and its timers.
-fn put_numbers(image: &mut [u8], at: usize, form: u8, for_read: u16, for_write: u16)
-    requires { at + body_size ≤ length image.old }
-    ensures { image.new ≡ put 2 (put 2 (put 1 image.old (at + form_place) form) (at + read_timer_place) for_read) (at + write_timer_place) for_write }
+// Byte 25, the read and the write timer: "Form 1 has byte 25 = 0"
+fn timer_numbers(timers: Option<Timers>) -> (u8, u16, u16)
+    ensures { result ≡ timer_numbers (as_timers timers) }
 {
-    wire::put_u8(image, at + entry::FORM_AT, form);
-    wire::put_u16(image, at + entry::READ_TIMER_AT, for_read);
-    wire::put_u16(image, at + entry::WRITE_TIMER_AT, for_write);
+    match timers {
+        None => (entry::WITHOUT_TIMERS, 0, 0),
+        Some(t) => (entry::WITH_TIMERS, t.read, t.write),
+    }
 }
 
 // Writes the timers of the body at `at`, in the form that they have.
-pub fn put_timers(image: &mut [u8], at: usize, timers: SavedTimers)
+pub fn put_timers(image: &mut [u8], at: usize, timers: Option<Timers>)
     requires { at + body_size ≤ length image.old }
     ensures { image.new ≡ stores (placed at (timer_fields (as_timers timers))) image.old }
 {
-    match timers {
-        SavedTimers::LeftOut => put_numbers(image, at, entry::WITHOUT_TIMERS, 0, 0),
-        SavedTimers::Stored(for_read, for_write) => {
-            put_numbers(image, at, entry::WITH_TIMERS, for_read, for_write)
-        }
-    }
+    let (form, read, write) = timer_numbers(timers);
+    form.put(image, at + entry::FORM_AT);
+    read.put(image, at + entry::READ_TIMER_AT);
+    write.put(image, at + entry::WRITE_TIMER_AT);
 }

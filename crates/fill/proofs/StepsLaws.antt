@@ -1,13 +1,13 @@
 -- A fill advanced by work: the definition's sector steps equal one change of the device and the sectors written one after the other.
-use mathlib.Core.Path.{◌≡◌, refl, sym, ap, subst, ◌∙◌}
+use mathlib.Core.Path.{◌≡◌, refl, sym, ap, ◌∙◌}
 use mathlib.Core.Bool.{Bool, true, false}
-use Prim.Native.Nat.{ℕ, ◌+◌, ◌*◌, ◌-◌, ◌≤◌, ◌<◌}
+use Prim.Native.Nat.{ℕ, ◌+◌, ◌*◌, ◌≤◌, ◌<◌}
 use native.Mathlib.Omega.{arith}
 use native.Mathlib.Decide.{dec_lt}
 use mathlib.Core.List.{List}
 use lib.ListN.{length}
 use lib.Dec.{eqb}
-use borrow.Author.Tests.{eq-eqb, ne_eqb, eqb-true, eqb-false}
+use borrow.Author.Tests.{eqb-true, eqb-false}
 use Rattle.std.specs.Prelude.{if◌then◌else◌}
 use Rattle.wire.specs.Bytes.{Bytes}
 use Rattle.wire.specs.Numbers.{le}
@@ -18,13 +18,12 @@ use Rattle.sector_check.specs.Check.{check_of}
 use Rattle.model.specs.Sizes.{sector_size, check_size}
 use Rattle.model.specs.Disk.{Disk, HasSize}
 use Rattle.model.specs.Device.{Fill, idle, running, Device, next_sector}
-use Rattle.model.specs.Update.{with_initialized}
 use Rattle.model.specs.Valid.{FillValid}
-use Rattle.model.specs.Fill.{Volume, advanced, sector_step, iterate, remaining, work_count, work}
+use Rattle.model.specs.Fill.{Volume, sector_step, iterate, remaining, work_count, work}
 use Rattle.model.proofs.DiskSizes.{joined}
 use Rattle.model.proofs.WorkLaws.{filled_disk, steps-device, steps-disk}
 use Rattle.record.specs.declared.device as code
-use Rattle.record.specs.DeviceMeaning.{as_fill, as_device, as_contents, history_of}
+use Rattle.record.specs.DeviceMeaning.{as_fill, as_contents, history_of}
 use Rattle.store.specs.Areas.{fill_place, private_size}
 use Rattle.store.specs.Record.{Contents, decode, encode}
 use Rattle.store.specs.Sound.{sound}
@@ -34,31 +33,6 @@ use Rattle.store.proofs.SoundLaws.{sound-valid}
 use Rattle.device_update.specs.Change.{Changed}
 use Rattle.device_update.proofs.ChangeLaws.{changed-contents}
 use Rattle.fill.specs.Moved.{fill_moved, moved_on}
-
--- ---- the device
-
-unmoved : (rule : Device → Device) (d : code.Device.Device) → ((h : List ℕ) → as_device d h ≡ rule (as_device d h)) → Changed rule d d
-unmoved rule d e = record { device = e; stages = refl; four = refl }
-
-pub moved_none : (k : ℕ) (d : code.Device.Device) → k ≡ 0 → Changed (moved_on k) d d
-moved_none k d e = unmoved (moved_on k) d (λ h. rw (eq-eqb k 0 e))
-
-module _ (k : ℕ) (d : code.Device.Device) (some : k ≡ 0 → ⊥) where
-  pub moved-idle : as_fill d.command.fill ≡ idle → Changed (moved_on k) d d
-  moved-idle f = unmoved (moved_on k) d (λ h. rw (ne_eqb k 0 some, f))
-
-  pub moved-running : (first next end : ℕ) (e : code.Device.Device) → as_fill d.command.fill ≡ running first next end
-      → Changed (λ x. advanced first (next + k) end (with_initialized false x)) d e → Changed (moved_on k) d e
-  moved-running first next end e f c =
-      record {
-        device = λ h. c.device h ∙ sym (rw (ne_eqb k 0 some, f));
-        stages = c.stages;
-        four = c.four;
-      }
-
--- what is left of a running fill limits the number of sectors
-pub left-bounds : (f : Fill) (k first next end : ℕ) → f ≡ running first next end → k ≤ remaining f → k ≤ end - next
-left-bounds f k first next end e h = subst (λ (g : Fill). k ≤ remaining g) e h
 
 -- ---- the definition's sector steps
 

@@ -20,20 +20,13 @@ use layout::{CHECK_U64, FILL_AT, SECTOR, SECTOR_U64};
 use record::{Device, Fill};
 use sector_check::check_of;
 
-// a - b, and 0 if b is greater.
-fn difference(a: u64, b: u64) -> u64
-    ensures { result ≡ a - b }
-{
-    if b < a { a - b } else { 0 }
-}
-
 // The number of sectors that are left of a fill.
 fn remaining(fill: Fill) -> u64
     ensures { result ≡ remaining (as_fill fill) }
 {
     match fill {
         Fill::Idle => 0,
-        Fill::Running(_, next, end) => difference(end, next),
+        Fill::Running(_, next, end) => end.saturating_sub(next),
     }
 }
 
@@ -41,8 +34,7 @@ fn remaining(fill: Fill) -> u64
 fn count_of(n: u32, fill: Fill) -> u32
     ensures { result ≡ work_count n (as_fill fill) }
 {
-    let left = remaining(fill);
-    if left < n as u64 { left as u32 } else { n }
+    (n as u64).min(remaining(fill)) as u32
 }
 
 // Writes the fill's sector to the k places from `next` on.
@@ -50,12 +42,9 @@ fn write_sectors(disk: &mut [u8], area: &[u8], next: u64, k: u32)
     requires { (length area.now ≡ private_size) × (sector_size * (next + k) ≤ length disk.old) }
     ensures { disk.new ≡ sets disk.old (sector_size * next) (repeated k (fill_sector_of area.now)) }
 {
-    let mut at = (SECTOR_U64 * next) as usize;
-    let mut j = 0;
-    while j < k {
-        runs::copy_part(disk, at, area, FILL_AT, SECTOR);
-        at += SECTOR;
-        j += 1;
+    let at = (SECTOR_U64 * next) as usize;
+    for j in 0..k as usize {
+        runs::copy_part(disk, at + SECTOR * j, area, FILL_AT, SECTOR);
     }
 }
 
@@ -68,7 +57,7 @@ fn write_check_bytes(check_area: &mut [u8], area: &[u8], next: u64, k: u32)
         return;
     }
     let check = check_of(area, FILL_AT);
-    runs::repeat_u16(check_area, (CHECK_U64 * next) as usize, check, k as usize);
+    runs::repeat(check_area, (CHECK_U64 * next) as usize, check, k as usize);
 }
 
 // The device after k sectors of its fill.

@@ -1,16 +1,34 @@
 -- One step along the chain, as the code makes it, and readability as the test of the whole chain.
-use mathlib.Core.Path.{◌≡◌, sym, ap, ◌∙◌}
+use Rattle.std.specs.Simd.{first_chunks}
+use mathlib.Core.Path.{◌≡◌, refl, sym, ap, ◌∙◌}
 use mathlib.Core.Bool.{Bool, true, false, ◌&&◌}
 use Prim.Native.Nat.{ℕ, zero, suc, ◌+◌, ◌-◌, ◌*◌, ◌%◌, ◌≤◌, ◌<◌}
 use native.Mathlib.Omega.{arith}
 use mathlib.Core.List.{List}
+use lib.ListN.{get_or, take, drop}
+use lib.Seq.{drop-drop}
 use lib.Dec.{eqb}
 use borrow.Author.Tests.{eq-eqb, ne_eqb, le-leb, lt-leb}
 use Rattle.wire.specs.Numbers.{get}
+use Rattle.wire.specs.Parts.{part}
 use Rattle.model.specs.Sizes.{trailer_size, entry_size, entry_limit}
 use Rattle.model.specs.Image.{form_of, Saved, saved_at, trailer_place, no_trailer, previous_place, link_place, entry_holds, entries, newest_in, readable_under, readable, chain_holds, chain_form}
 use Rattle.image.specs.EntryTests.{NewestIs}
+use Rattle.model.proofs.EntryLaws.{saved-at}
 use Rattle.model.proofs.ImageLaws.{chain-every, newest-at}
+
+-- an entry as one of the chunks that a chain is cut into
+pub chunk-at : (n k : ℕ) (image d : List ℕ) → k < n → get_or (first_chunks entry_size n image) k d ≡ part image (entry_size * k) entry_size
+chunk-at zero k image d h = absurd (omega arith)
+chunk-at (suc n) zero image d h = refl
+chunk-at (suc n) (suc k) image d h =
+    chunk-at n k (drop entry_size image) d (omega arith)
+    ∙ ap (take entry_size) (drop-drop (entry_size * k) entry_size image)
+    ∙ ap (λ (at : ℕ). part image at entry_size) (omega arith)
+
+-- what an entry saves, read from the run that begins with it
+pub last-saved : (image : List ℕ) (at : ℕ) → saved_at (drop at image) 0 ≡ saved_at image at
+last-saved image at = sym (saved-at (drop at image) 0) ∙ saved-at image at
 
 module _ (newest : Saved) (image : List ℕ) where
   pub chain-none : (k at : ℕ) → k ≡ 0 → eqb at no_trailer ≡ chain_holds newest image k at

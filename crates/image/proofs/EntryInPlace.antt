@@ -363,3 +363,20 @@ entry-in-place newest image at k b low high e long =
       ← trailer-in-place image (trailer_place k) k b (omega arith) high,
       ← saved-at image (trailer_place k - body_size),
     )
+
+-- .. in the entry's own bytes
+pub entry-alone : (newest : Saved) (image e : List ℕ) (k : ℕ) → Bytes e → length e ≡ entry_size → 1 ≤ k → k ≤ entry_limit → e ≡ part image (entry_size * (k - 1)) entry_size
+    → (body_in_place e 0 && alike newest (saved_at e 0) && trailer_in_place e body_size k) ≡ entry_holds newest image k
+unfolding entry_holds_under
+entry-alone newest image e k b long low high is =
+    sym (λ i. body-in-place e 0 b (omega (arith, long)) i && alike newest (saved-at e 0 i) && trailer-in-place e body_size k b (omega (arith, long)) high i)
+    ∙ (λ i. body_holds (body i) && alike newest (saved_at (body i) 0) && same (trailer i) (trailer_bytes k))
+  where
+    within : (i n at : ℕ) → i + n ≤ entry_size → entry_size * (k - 1) + i ≡ at → part e i n ≡ part image at n
+    within i n at h p = ap (λ (l : List ℕ). part l i n) is ∙ part-part image (entry_size * (k - 1)) entry_size i n h ∙ ap (λ (j : ℕ). part image j n) p
+
+    body : part e 0 body_size ≡ part image (trailer_place k - body_size) body_size
+    body = within 0 body_size (trailer_place k - body_size) (omega arith) (omega arith)
+
+    trailer : part e body_size trailer_size ≡ part image (trailer_place k) trailer_size
+    trailer = within body_size trailer_size (trailer_place k) (omega arith) (omega arith)

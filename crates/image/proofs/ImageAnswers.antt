@@ -2,7 +2,7 @@
 use Rattle.std.specs.Prelude.{if◌then◌else◌}
 use mathlib.Core.Path.{◌≡◌, refl, sym, ap}
 use mathlib.Core.Bool.{Bool, true, false, ◌&&◌}
-use Prim.Native.Nat.{ℕ, ◌+◌, ◌-◌, ◌/◌, ◌≤◌, ◌<◌}
+use Prim.Native.Nat.{ℕ, ◌+◌, ◌-◌, ◌/◌, ◌%◌, ◌≤◌, ◌<◌}
 use native.Mathlib.Omega.{arith}
 use mathlib.Core.List.{List, [], ◌∷◌}
 use lib.ListN.{length}
@@ -23,10 +23,13 @@ disk-empty native image used e = rw (eq-eqb used 0 e)
 pub entry-before : (image : List ℕ) (used : ℕ) → readable image used ≡ true → (used ≡ 0 → ⊥) → entry_size ≤ used
 entry-before image used r some = let m = (readable-parts image used r).multiple in omega arith
 
+pub disk_last : (native : ℕ) (image : List ℕ) (used : ℕ) → used % entry_size ≡ 0 → (used ≡ 0 → ⊥)
+    → eqb (saved_at image (used - entry_size)).native native ≡ same_disk native image used
+disk_last native image used whole some = sym (rw (ne_eqb used 0 some, newest-at image used whole (omega (arith, whole, some))))
+
 pub disk-newest : (native : ℕ) (image : List ℕ) (used : ℕ) → readable image used ≡ true → (used ≡ 0 → ⊥)
     → eqb (saved_at image (used - entry_size)).native native ≡ same_disk native image used
-disk-newest native image used r some =
-    sym (rw (ne_eqb used 0 some, newest-at image used (readable-parts image used r).multiple (entry-before image used r some)))
+disk-newest native image used r some = disk_last native image used (readable-parts image used r).multiple some
 
 -- ---- room for one more
 

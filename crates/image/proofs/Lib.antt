@@ -2,3 +2,4 @@
 pub mod EntryInPlace
 pub mod ChainLaws
 pub mod ImageAnswers
+pub mod UsedLaws

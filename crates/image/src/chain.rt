@@ -1,58 +1,64 @@
-// The chain of entries, from the last trailer back, and the form that a save keeps.
-ghost use Rattle.std.specs.Prelude.{◌≡◌, ◌+◌, ◌*◌, ◌%◌, ◌≤◌, length};
+// The chain of entries, from the last trailer back, and the form that a save keeps. A chain here is an image up to its used length.
+ghost use Rattle.std.specs.Prelude.{◌≡◌, ◌≤◌, ◌%◌, List, ℕ, length};
+ghost use Rattle.std.specs.Simd.{first_chunks};
 ghost use Rattle.model.specs.Sizes.{entry_size, entry_limit};
 ghost use Rattle.model.specs.Image.{Saved, chain_holds, readable, chain_form};
+ghost use Rattle.entry_timers.specs.TimersMeaning.{form_number};
 ghost use Rattle.image.specs.EntryTests.{NewestIs};
 
-use crate::entry::{entry_holds, form_at, native_at};
-use layout::{ENTRY, IMAGE_LIMIT, TRAILER, entry};
+use crate::entry::{Common, common_of, entry_holds, form_of};
+use entry_timers::Form;
+use layout::{BODY, ENTRIES, ENTRY, ENTRY_U32, TRAILER_U32, entry};
+use wire::Number;
 
 // "Reading starts at the last trailer and follows the chain back": the entries from `number` down to the first, the last trailer at `at`.
-// `native` and `form` are what `alike` needs of the newest entry. The image is passed as a reference to the slice, so that the call at the end takes no stack.
-fn chain_holds(native: u64, form: u32, image: &&[u8], at: usize, number: u32) -> bool
-    requires number_le_entry_limit { number ≤ entry_limit }
-    requires long { entry_size * number ≤ length image.now.now }
-    ensures { (newest : Saved) → NewestIs newest native form → result ≡ chain_holds newest image.now.now number at }
+// `newest` is what they must have in common with the newest. The slice is passed by its address, in one word, and the call comes last: it becomes
+// a loop, so a chain of any length takes the same stack.
+fn chain_holds(newest: Common, entries: &&[[u8; ENTRY]], at: u32, number: u32) -> bool
+    requires { (number ≤ length entries.now.now) × (number ≤ entry_limit) }
+    ensures { (s : Saved) (image : List ℕ) → NewestIs s newest.native (form_number newest.form) → entries.now.now ≡ first_chunks entry_size (length entries.now.now) image → result ≡ chain_holds s image number at }
 {
     if number == 0 {
-        return at == entry::NO_TRAILER_AT;
+        return at == entry::NO_TRAILER;
     }
-    if at != ENTRY * (number as usize) - TRAILER {
+    if at != ENTRY_U32 * number - TRAILER_U32 {
         return false;
     }
-    if !entry_holds(native, form, *image, at, number) {
+    let entry = &entries[number as usize - 1];
+    if !entry_holds(newest, entry, number) {
         return false;
     }
-    let before = wire::u32_at(*image, at + entry::LINK_AT);
-    chain_holds(native, form, image, before as usize, number - 1)
+    let before = u32::get(entry, BODY + entry::LINK_AT);
+    chain_holds(newest, entries, before, number - 1)
 }
 
-// Whether the image, used up to `used`, is readable.
-pub fn readable(image: &[u8], used: usize) -> bool
-    requires { used ≤ length image.now }
-    ensures { result ≡ readable image.now used }
+// Whether a chain is readable.
+pub fn readable(chain: &[u8]) -> bool
+    ensures { result ≡ readable chain.now (length chain.now) }
 {
-    if used % ENTRY != 0 {
+    let (entries, rest) = chain.as_chunks::<ENTRY>();
+    if !rest.is_empty() {
         return false;
     }
-    if used > IMAGE_LIMIT {
+    if entries.len() > ENTRIES {
         return false;
     }
-    if used == 0 {
-        return true;
+    match chain.last_chunk::<ENTRY>() {
+        None => true,
+        Some(newest) => {
+            let last = chain.len() as u32 - TRAILER_U32;
+            chain_holds(common_of(newest), &entries, last, entries.len() as u32)
+        }
     }
-    let native = native_at(image, used - ENTRY);
-    let form = form_at(image, used - ENTRY);
-    chain_holds(native, form, &image, used - TRAILER, (used / ENTRY) as u32)
 }
 
 // "a save keeps the form of the chain it extends .., and an empty image starts with form 2"
-pub fn chain_form(image: &[u8], used: usize) -> u32
-    requires { (used ≤ length image.now) × (used % entry_size ≡ 0) }
-    ensures { result ≡ chain_form image.now used }
+pub fn chain_form(chain: &[u8]) -> Form
+    requires { length chain.now % entry_size ≡ 0 }
+    ensures { form_number result ≡ chain_form chain.now (length chain.now) }
 {
-    if used == 0 {
-        return entry::FORM_2;
+    match chain.last_chunk::<ENTRY>() {
+        None => Form::Two,
+        Some(newest) => form_of(newest),
     }
-    form_at(image, used - ENTRY)
 }

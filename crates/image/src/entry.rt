@@ -1,44 +1,64 @@
 // One entry of the saved image, tested in place: its body and its trailer.
-ghost use Rattle.std.specs.Prelude.{◌≡◌, ◌+◌, ◌*◌, ◌≤◌, length};
+ghost use Rattle.std.specs.Prelude.{◌≡◌, ◌≤◌, ◌+◌, ◌-◌, ◌*◌, ℕ, List};
 ghost use Rattle.wire.specs.Parts.{part};
 ghost use Rattle.wire.specs.Bytes.{same};
-ghost use Rattle.model.specs.Sizes.{body_size, trailer_size, entry_size, entry_limit};
-ghost use Rattle.model.specs.Image.{Saved, form_of, saved_at, in_range, alike, tag, previous_place, trailer_place, entry_holds};
+ghost use Rattle.model.specs.Sizes.{body_size, entry_size, entry_limit};
+ghost use Rattle.model.specs.Image.{Saved, form_of, saved_at, in_range, alike, tag, tag_place, previous_place, entry_holds};
+ghost use Rattle.entry_timers.specs.TimersMeaning.{form_number};
 ghost use Rattle.image.specs.EntryTests.{timers_in_place, body_in_place, trailer_in_place, NewestIs};
 
-use layout::{BODY, BODY_U32, ENTRY_U32, HISTORY_U16, NATIVE_LIMIT, TRAILER_U32, entry};
+use entry_timers::Form;
+use layout::{BODY, BODY_U32, ENTRY, ENTRY_U32, HISTORY_U16, NATIVE_LIMIT, TRAILER_U32, entry};
+use wire::Number;
 
 // "then the letters SCTE"
 pub const TAG: [u8; 4] = *b"SCTE";
 
-// N of the body at `at`.
-pub fn native_at(image: &[u8], at: usize) -> u64
-    requires { at + body_size ≤ length image.now }
-    ensures { result ≡ (saved_at image.now at).native }
-{
-    wire::u64_at(image, at + entry::NATIVE_AT)
+// What the entries of a chain have in common: "all entries have the same N"; "A chain may not mix forms".
+#[derive(Clone, Copy, Debug, PartialEq, Eq)]
+pub struct Common {
+    pub native: u64,
+    pub form: Form,
 }
 
-// The form of the body at `at`.
-pub fn form_at(image: &[u8], at: usize) -> u32
-    requires { at + body_size ≤ length image.now }
-    ensures { result ≡ form_of (saved_at image.now at).timers }
+// N of an entry.
+#[tactic(auto, unfolding(model::specs::Image::saved_at))]
+pub fn native_of(entry: &[u8; ENTRY]) -> u64
+    ensures { result ≡ (saved_at entry.now 0).native }
 {
-    entry_timers::form_of(entry_timers::timers_at(image, at))
+    u64::get(entry, entry::NATIVE_AT)
+}
+
+// The form of an entry.
+#[tactic(auto, unfolding(model::specs::Image::saved_at))]
+pub fn form_of(entry: &[u8; ENTRY]) -> Form
+    ensures { form_number result ≡ form_of (saved_at entry.now 0).timers }
+{
+    entry_timers::form_of(entry_timers::timers_at(entry))
+}
+
+// .. of an entry.
+pub fn common_of(entry: &[u8; ENTRY]) -> Common
+    ensures { NewestIs (saved_at entry.now 0) result.native (form_number result.form) }
+{
+    Common {
+        native: native_of(entry),
+        form: form_of(entry),
+    }
 }
 
 // "values in range": N and V, the states of the features, the index, the timers.
-fn values_in_range(image: &[u8], at: usize) -> bool
-    requires { at + body_size ≤ length image.now }
-    ensures { result ≡ in_range (saved_at image.now at) }
+#[tactic(auto, unfolding(model::specs::Image::in_range_under, model::specs::Image::saved_at))]
+fn values_in_range(entry: &[u8; ENTRY]) -> bool
+    ensures { result ≡ in_range (saved_at entry.now 0) }
 {
-    let native = native_at(image, at);
-    let visible = wire::u64_at(image, at + entry::VISIBLE_AT);
-    let cache = wire::u16_at(image, at + entry::CACHE_AT);
-    let reordering = wire::u16_at(image, at + entry::REORDERING_AT);
-    let interval = wire::u16_at(image, at + entry::INTERVAL_AT);
-    let index = wire::u16_at(image, at + entry::INDEX_AT);
-    let timers = entry_timers::timers_at(image, at);
+    let native = native_of(entry);
+    let visible = u64::get(entry, entry::VISIBLE_AT);
+    let cache = u16::get(entry, entry::CACHE_AT);
+    let reordering = u16::get(entry, entry::REORDERING_AT);
+    let interval = u16::get(entry, entry::INTERVAL_AT);
+    let index = u16::get(entry, entry::INDEX_AT);
+    let timers = entry_timers::timers_at(entry);
     ((1 <= native) & (native <= NATIVE_LIMIT))
         & ((1 <= visible) & (visible <= native))
         & record_check::states_named(cache, reordering, interval)
@@ -47,30 +67,30 @@ fn values_in_range(image: &[u8], at: usize) -> bool
 }
 
 // In form 2 byte 25 is 2; in form 1 it is 0, and so are the places of the timers.
-fn timers_hold(image: &[u8], at: usize) -> bool
-    requires { at + body_size ≤ length image.now }
-    ensures { result ≡ timers_in_place image.now at }
+#[tactic(auto, unfolding(crate::specs::EntryTests::timers_in_place))]
+fn timers_hold(entry: &[u8; ENTRY]) -> bool
+    ensures { result ≡ timers_in_place entry.now 0 }
 {
-    let form = wire::u8_at(image, at + entry::FORM_AT);
-    let for_read = wire::u16_at(image, at + entry::READ_TIMER_AT);
-    let for_write = wire::u16_at(image, at + entry::WRITE_TIMER_AT);
+    let form = u8::get(entry, entry::FORM_AT);
+    let for_read = u16::get(entry, entry::READ_TIMER_AT);
+    let for_write = u16::get(entry, entry::WRITE_TIMER_AT);
     (form == entry::WITH_TIMERS)
         | ((form == entry::WITHOUT_TIMERS) & (for_read == 0) & (for_write == 0))
 }
 
-// Whether the body at `at` holds.
-fn body_holds(image: &[u8], at: usize) -> bool
-    requires { at + body_size ≤ length image.now }
-    ensures { result ≡ body_in_place image.now at }
+// Whether the body of an entry holds.
+#[tactic(auto, unfolding(crate::specs::EntryTests::body_in_place))]
+fn body_holds(entry: &[u8; ENTRY]) -> bool
+    ensures { result ≡ body_in_place entry.now 0 }
 {
-    let flag = wire::u8_at(image, at + entry::FLAG_AT);
-    let options = wire::u8_at(image, at + entry::OPTIONS_AT);
-    let timers = timers_hold(image, at);
-    let zero = runs::is_zero(image, at + entry::ZEROS_AT, entry::ZEROS);
-    let fixed = record_check::table_fixed(image, at + entry::TABLE_AT);
-    let logged = wire::u16_at(image, at + entry::TABLE_INTERVAL_AT);
-    let state = wire::u16_at(image, at + entry::INTERVAL_AT);
-    let ranged = values_in_range(image, at);
+    let flag = u8::get(entry, entry::FLAG_AT);
+    let options = u8::get(entry, entry::OPTIONS_AT);
+    let timers = timers_hold(entry);
+    let zero = runs::is_zero(entry, entry::ZEROS_AT, entry::ZEROS);
+    let fixed = record_check::table_fixed(entry, entry::TABLE_AT);
+    let logged = u16::get(entry, entry::TABLE_INTERVAL_AT);
+    let state = u16::get(entry, entry::INTERVAL_AT);
+    let ranged = values_in_range(entry);
     (flag <= 1)
         & (options <= entry::OPTIONS_LIMIT)
         & timers
@@ -80,12 +100,12 @@ fn body_holds(image: &[u8], at: usize) -> bool
         & ranged
 }
 
-// "all entries have the same N"; "A chain may not mix forms": whether the body at `at` is like that of the newest entry, which has this N and form.
-fn alike(native: u64, form: u32, image: &[u8], at: usize) -> bool
-    requires { at + body_size ≤ length image.now }
-    ensures { (newest : Saved) → NewestIs newest native form → result ≡ alike newest (saved_at image.now at) }
+// Whether an entry is like the newest, with which it has this in common.
+#[tactic(auto, unfolding(model::specs::Image::alike))]
+fn alike(newest: Common, entry: &[u8; ENTRY]) -> bool
+    ensures { (s : Saved) → NewestIs s newest.native (form_number newest.form) → result ≡ alike s (saved_at entry.now 0) }
 {
-    (native_at(image, at) == native) & (form_at(image, at) == form)
+    common_of(entry) == newest
 }
 
 // "the place of the previous trailer (FFFFFFFFh for the first)"
@@ -100,35 +120,33 @@ pub fn previous_place(number: u32) -> u32
     }
 }
 
-// Whether the letters are at `at`.
-fn tag_holds(image: &[u8], at: usize) -> bool
-    requires { at + 4 ≤ length image.now }
-    ensures { result ≡ same (part image.now at 4) tag }
+// Whether the letters end an entry.
+fn tag_holds(entry: &[u8; ENTRY]) -> bool
+    ensures { result ≡ same (part entry.now (body_size + tag_place) 4) tag }
 {
-    let letters = TAG;
-    runs::same_part(image, at, &letters, 0, entry::TAG)
+    entry.ends_with(&TAG)
 }
 
-// Whether trailer `number` is at `at`.
-fn trailer_holds(image: &[u8], at: usize, number: u32) -> bool
-    requires { (at + trailer_size ≤ length image.now) × (1 ≤ number) × (number ≤ entry_limit) }
-    ensures { result ≡ trailer_in_place image.now at number }
+// Whether the trailer of an entry is that of this number.
+#[tactic(auto, unfolding(crate::specs::EntryTests::trailer_in_place))]
+fn trailer_holds(entry: &[u8; ENTRY], number: u32) -> bool
+    requires { (1 ≤ number) × (number ≤ entry_limit) }
+    ensures { result ≡ trailer_in_place entry.now body_size number }
 {
-    let size = wire::u32_at(image, at);
-    let before = wire::u32_at(image, at + entry::LINK_AT);
-    let named = wire::u32_at(image, at + entry::NUMBER_AT);
-    let letters = tag_holds(image, at + entry::TAG_AT);
+    let size = u32::get(entry, BODY);
+    let before = u32::get(entry, BODY + entry::LINK_AT);
+    let named = u32::get(entry, BODY + entry::NUMBER_AT);
+    let letters = tag_holds(entry);
     (size == BODY_U32) & (before == previous_place(number)) & (named == number) & letters
 }
 
-// Whether entry `number` holds, given N and form of the newest entry; the entry's trailer is at `at`.
-pub fn entry_holds(native: u64, form: u32, image: &[u8], at: usize, number: u32) -> bool
-    requires le_number { (1 ≤ number) × (number ≤ entry_limit) × (at ≡ trailer_place number) }
-    requires long { entry_size * number ≤ length image.now }
-    ensures { (newest : Saved) → NewestIs newest native form → result ≡ entry_holds newest image.now number }
+// Whether entry `number` of an image holds, given what it has in common with the newest.
+pub fn entry_holds(newest: Common, entry: &[u8; ENTRY], number: u32) -> bool
+    requires { (1 ≤ number) × (number ≤ entry_limit) }
+    ensures { (s : Saved) (image : List ℕ) → NewestIs s newest.native (form_number newest.form) → entry.now ≡ part image (entry_size * (number - 1)) entry_size → result ≡ entry_holds s image number }
 {
-    let body = body_holds(image, at - BODY);
-    let same = alike(native, form, image, at - BODY);
-    let trailer = trailer_holds(image, at, number);
+    let body = body_holds(entry);
+    let same = alike(newest, entry);
+    let trailer = trailer_holds(entry, number);
     body & same & trailer
 }

@@ -7,4 +7,4 @@ mod refusal;
 
 pub use chain::{chain_form, readable};
 pub use entry::{TAG, previous_place};
-pub use refusal::{read_refusal, save_refusal};
+pub use refusal::{image_checks, save_checks};

@@ -1,37 +1,41 @@
 // The answers to an image: whether it can be read for this disk, and whether it can take one more entry.
-ghost use Rattle.std.specs.Prelude.{◌≡◌, true, ◌≤◌, length};
+ghost use Rattle.std.specs.Prelude.{◌≡◌, ◌≤◌, ◌%◌, length};
 ghost use Rattle.wire.specs.Choice.{first_failed};
-ghost use Rattle.model.specs.Image.{readable, same_disk, image_checks, has_room, save_checks};
+ghost use Rattle.model.specs.Sizes.{entry_size};
+ghost use Rattle.model.specs.Image.{same_disk, image_checks, has_room, save_checks};
+ghost use Rattle.layout.specs.Answer.{answer_of};
 
 use crate::chain::readable;
-use crate::entry::native_at;
-use layout::{ENTRIES, ENTRY, answer};
+use crate::entry::native_of;
+use layout::answer::Refusal;
+use layout::{ENTRIES, ENTRY};
 
-// Whether the image is empty or its newest entry is this disk's.
-fn same_disk(native: u64, image: &[u8], used: usize) -> bool
-    requires { (used ≤ length image.now) × (readable image.now used ≡ true) }
-    ensures { result ≡ same_disk native image.now used }
+// Whether a chain is empty or its newest entry is this disk's.
+fn same_disk(native: u64, chain: &[u8]) -> bool
+    requires { length chain.now % entry_size ≡ 0 }
+    ensures { result ≡ same_disk native chain.now (length chain.now) }
 {
-    if used == 0 {
-        return true;
+    match chain.last_chunk::<ENTRY>() {
+        None => true,
+        Some(newest) => native_of(newest) == native,
     }
-    native_at(image, used - ENTRY) == native
 }
 
-// 0, or the number of the refusal: 2 length, 6 image, 7 other disk.
-pub fn read_refusal(native: u64, image: &[u8], used: usize) -> u32
-    ensures { result ≡ first_failed (image_checks native image.now used) }
+// The refusals: 2 length, 6 image, 7 other disk.
+pub fn image_checks(native: u64, image: &[u8], used: usize) -> Result<(), Refusal>
+    ensures { answer_of result ≡ first_failed (image_checks native image.now used) }
 {
     if used > image.len() {
-        return answer::BAD_LENGTH;
+        return Err(Refusal::BadLength);
     }
-    if !readable(image, used) {
-        return answer::BAD_IMAGE;
+    let chain = &image[..used];
+    if !readable(chain) {
+        return Err(Refusal::BadImage);
     }
-    if !same_disk(native, image, used) {
-        return answer::OTHER_DISK;
+    if !same_disk(native, chain) {
+        return Err(Refusal::OtherDisk);
     }
-    answer::DONE
+    Ok(())
 }
 
 // Whether a save has room: fewer than 117 entries, and 560 more bytes of the buffer.
@@ -42,16 +46,13 @@ fn has_room(image: &[u8], used: usize) -> bool
     (used / ENTRY < ENTRIES) & (ENTRY <= image.len() - used)
 }
 
-// 0, or the number of the refusal: 2 length, 6 image, 7 other disk, 8 full.
-pub fn save_refusal(native: u64, image: &[u8], used: usize) -> u32
-    ensures { result ≡ first_failed (save_checks native image.now used) }
+// The refusals: 2 length, 6 image, 7 other disk, 8 full.
+pub fn save_checks(native: u64, image: &[u8], used: usize) -> Result<(), Refusal>
+    ensures { answer_of result ≡ first_failed (save_checks native image.now used) }
 {
-    let n = read_refusal(native, image, used);
-    if n != answer::DONE {
-        return n;
-    }
+    image_checks(native, image, used)?;
     if !has_room(image, used) {
-        return answer::IMAGE_FULL;
+        return Err(Refusal::ImageFull);
     }
-    answer::DONE
+    Ok(())
 }

@@ -38,6 +38,8 @@ pub record PowerOnPassed (r a : List ℕ) (disk : Disk) (image : List ℕ) (used
   pub record_sized : length r ≡ record_size
   pub area_sized : length a ≡ private_size
   pub readable : first_failed (image_checks (native_size disk) image used) ≡ 0
+  pub fits : used ≤ length image
+  pub whole : used % entry_size ≡ 0
 
 pub power-on-passed : (r a : List ℕ) (disk : Disk) (image : List ℕ) (used : ℕ) {n : ℕ} → n ≡ first_failed (power_on_checks r a disk image used) → n ≡ 0 → PowerOnPassed r a disk image used
 power-on-passed r a disk image used e z =
@@ -46,4 +48,6 @@ power-on-passed r a disk image used e z =
       record_sized = eqb-true (length r) record_size all.0;
       area_sized = eqb-true (length a) private_size all.1.0;
       readable = pass_all (image_checks (native_size disk) image used) all.1.1.1;
+      fits = leb-true used (length image) all.1.1.1.0;
+      whole = (readable-parts image used all.1.1.1.1.0).multiple;
     }

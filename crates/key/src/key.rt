@@ -11,7 +11,7 @@ ghost use Rattle.key.specs.VerdictMeaning.{as_action, as_verdict, refusal_of};
 use crate::refusal::Refusal;
 use layout::sct;
 use record::{Direction, FeatureName};
-use wire::{u16_at, u64_at};
+use wire::Number;
 
 // A long sector access has its direction and LBA. A fill's numbers are its first sector and its end. A timer is set to a number of 100 ms; a
 // feature to a state, with true if the option is 1: "Option 1 keeps a state over power".
@@ -247,29 +247,29 @@ pub fn read_key(area: &[u8], at: usize, locked: bool, visible: u64) -> Verdict
     if locked {
         return Verdict::Rejected(Refusal::KEY_LOCKED);
     }
-    let action = u16_at(area, at);
+    let action = u16::get(area, at);
     if !between(sct::ACTION_LONG, action, sct::ACTION_TABLE) {
         return Verdict::Rejected(Refusal::KEY_ACTION);
     }
-    let function = u16_at(area, at + sct::FUNCTION_AT);
+    let function = u16::get(area, at + sct::FUNCTION_AT);
     if action == sct::ACTION_LONG {
-        return long_key(function, u64_at(area, at + sct::LBA_AT), visible);
+        return long_key(function, u64::get(area, at + sct::LBA_AT), visible);
     }
     if action == sct::ACTION_FILL {
         return fill_key(
             function,
-            u64_at(area, at + sct::START_AT),
-            u64_at(area, at + sct::COUNT_AT),
+            u64::get(area, at + sct::START_AT),
+            u64::get(area, at + sct::COUNT_AT),
             visible,
         );
     }
-    let name = u16_at(area, at + sct::SELECTION_AT);
-    let value = u16_at(area, at + sct::VALUE_AT);
+    let name = u16::get(area, at + sct::SELECTION_AT);
+    let value = u16::get(area, at + sct::VALUE_AT);
     if action == sct::ACTION_TIMER {
         return timer_key(function, name, value);
     }
     if action == sct::ACTION_FEATURE {
-        return feature_key(function, name, value, u16_at(area, at + sct::OPTION_AT));
+        return feature_key(function, name, value, u16::get(area, at + sct::OPTION_AT));
     }
     table_key(function, name)
 }

@@ -1,23 +1,27 @@
-// The answers, with the names that they have in crates/model/specs/Sizes and in the header.
+// Why a call is refused, and the number that answers it: the names are those of crates/model/specs/Sizes and of the header.
+ghost use Rattle.std.specs.Prelude.{◌≡◌};
+ghost use Rattle.layout.specs.Answer.{answer_of};
 
-// "No. Meaning"
-pub const DONE: u32 = 0;
+// "No. Meaning". W-204: "going back from timers other than 70 and 70 is answer 9"
+#[derive(Clone, Copy, PartialEq, Eq)]
+pub enum Refusal {
+    BadPort = 1,
+    BadLength = 2,
+    BadStage = 3,
+    BadRecord = 4,
+    BadValue = 5,
+    BadImage = 6,
+    OtherDisk = 7,
+    ImageFull = 8,
+    OtherTimers = 9,
+}
 
-pub const BAD_PORT: u32 = 1;
-
-pub const BAD_LENGTH: u32 = 2;
-
-pub const BAD_STAGE: u32 = 3;
-
-pub const BAD_RECORD: u32 = 4;
-
-pub const BAD_VALUE: u32 = 5;
-
-pub const BAD_IMAGE: u32 = 6;
-
-pub const OTHER_DISK: u32 = 7;
-
-pub const IMAGE_FULL: u32 = 8;
-
-// W-204: "going back from timers other than 70 and 70 is answer 9"
-pub const OTHER_TIMERS: u32 = 9;
+// The number of the answer: 0 for a call that was done.
+pub fn answer_of(outcome: Result<(), Refusal>) -> u32
+    ensures { result ≡ answer_of outcome }
+{
+    match outcome {
+        Ok(()) => 0,
+        Err(refusal) => refusal as u32,
+    }
+}

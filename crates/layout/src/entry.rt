@@ -40,11 +40,6 @@ pub const WRITE_TIMER_AT: usize = 28;
 
 pub const ZEROS_AT: usize = 30;
 
-// The forms by their numbers: form 1 leaves the timers out.
-pub const FORM_1: u32 = 1;
-
-pub const FORM_2: u32 = 2;
-
 pub const TABLE_AT: usize = 32;
 
 pub const ZEROS: usize = TABLE_AT - ZEROS_AT;
@@ -66,5 +61,3 @@ pub const TAG_AT: usize = 12;
 pub const TAG: usize = 4;
 
 pub const NO_TRAILER: u32 = 0xFFFFFFFF;
-
-pub const NO_TRAILER_AT: usize = NO_TRAILER as usize;

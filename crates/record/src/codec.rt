@@ -7,6 +7,7 @@ ghost use Rattle.record.specs.DeviceMeaning.{as_stage, as_transfer, as_fill, as_
 
 use crate::device::{Command, Device, Feature, Fill, Settings, Slot, Stage, Thermal, Transfer};
 use layout::{field, port, table};
+use wire::Number;
 
 // ---- numbers as cases
 
@@ -67,7 +68,7 @@ fn flag_at(device: &[u8], at: usize) -> bool
     requires { at + 1 ≤ length device.now }
     ensures { result ≡ flag_of (get 1 device.now at) }
 {
-    wire::u8_at(device, at) == 1
+    u8::get(device, at) == 1
 }
 
 // The fill: its kind is in byte 18, its three numbers are from byte 48 on.
@@ -76,10 +77,10 @@ pub fn fill_at(device: &[u8]) -> Fill
     ensures { as_fill result ≡ (decode device.now).device.command.fill }
 {
     fill_of(
-        wire::u8_at(device, field::FILL_AT),
-        wire::u64_at(device, field::FILL_FIRST_AT),
-        wire::u64_at(device, field::FILL_NEXT_AT),
-        wire::u64_at(device, field::FILL_END_AT),
+        u8::get(device, field::FILL_AT),
+        u64::get(device, field::FILL_FIRST_AT),
+        u64::get(device, field::FILL_NEXT_AT),
+        u64::get(device, field::FILL_END_AT),
     )
 }
 
@@ -88,7 +89,7 @@ pub fn code_at(device: &[u8]) -> u16
     requires { length device.now ≡ record_size }
     ensures { result ≡ (decode device.now).device.command.code }
 {
-    wire::u16_at(device, field::CODE_AT)
+    u16::get(device, field::CODE_AT)
 }
 
 // The last command. What the ports have pending is in their slots.
@@ -100,8 +101,8 @@ fn command_at(device: &[u8]) -> Command
     ensures fill { as_fill result.fill ≡ (decode device.now).device.command.fill }
 {
     let code = code_at(device);
-    let action = wire::u16_at(device, field::ACTION_AT);
-    let function = wire::u16_at(device, field::FUNCTION_AT);
+    let action = u16::get(device, field::ACTION_AT);
+    let function = u16::get(device, field::FUNCTION_AT);
     let fill = fill_at(device);
     Command {
         code,
@@ -117,20 +118,20 @@ pub fn settings_at(device: &[u8]) -> Settings
     ensures { as_settings result ≡ (decode device.now).device.settings }
 {
     let write_cache = Feature {
-        state: wire::u16_at(device, field::WRITE_CACHE_AT),
+        state: u16::get(device, field::WRITE_CACHE_AT),
         persistent: flag_at(device, field::WRITE_CACHE_KEPT_AT),
     };
     let reordering = Feature {
-        state: wire::u16_at(device, field::REORDERING_AT),
+        state: u16::get(device, field::REORDERING_AT),
         persistent: flag_at(device, field::REORDERING_KEPT_AT),
     };
     let log_interval = Feature {
-        state: wire::u16_at(device, table::RECORD_INTERVAL_AT),
+        state: u16::get(device, table::RECORD_INTERVAL_AT),
         persistent: flag_at(device, field::LOG_INTERVAL_KEPT_AT),
     };
     Settings {
-        read_timer: wire::u16_at(device, field::READ_TIMER_AT),
-        write_timer: wire::u16_at(device, field::WRITE_TIMER_AT),
+        read_timer: u16::get(device, field::READ_TIMER_AT),
+        write_timer: u16::get(device, field::WRITE_TIMER_AT),
         write_cache,
         reordering,
         log_interval,
@@ -143,11 +144,11 @@ fn thermal_at(device: &[u8]) -> Thermal
     ensures { as_thermal result (history_of device.now) ≡ (decode device.now).device.thermal }
 {
     Thermal {
-        current: wire::u8_at(device, field::CURRENT_AT),
-        cycle_maximum: wire::u8_at(device, field::CYCLE_MAXIMUM_AT),
-        life_maximum: wire::u8_at(device, field::LIFE_MAXIMUM_AT),
-        index: wire::u16_at(device, table::RECORD_INDEX_AT),
-        minutes: wire::u16_at(device, field::MINUTES_AT),
+        current: u8::get(device, field::CURRENT_AT),
+        cycle_maximum: u8::get(device, field::CYCLE_MAXIMUM_AT),
+        life_maximum: u8::get(device, field::LIFE_MAXIMUM_AT),
+        index: u16::get(device, table::RECORD_INDEX_AT),
+        minutes: u16::get(device, field::MINUTES_AT),
     }
 }
 
@@ -156,7 +157,7 @@ pub fn stage_at(device: &[u8], i: usize) -> Stage
     requires { (length device.now ≡ record_size) × (i < 4) }
     ensures { as_stage result ≡ stage_at device.now i }
 {
-    stage_of(wire::u8_at(device, field::PORTS_AT + port::SIZE * i))
+    stage_of(u8::get(device, field::PORTS_AT + port::SIZE * i))
 }
 
 // The transfer that port i has pending.
@@ -166,9 +167,9 @@ pub fn transfer_at(device: &[u8], i: usize) -> Transfer
 {
     let at = field::PORTS_AT + port::SIZE * i;
     transfer_of(
-        wire::u8_at(device, at + port::TRANSFER_AT),
-        wire::u64_at(device, at + port::FIRST_AT),
-        wire::u64_at(device, at + port::END_AT),
+        u8::get(device, at + port::TRANSFER_AT),
+        u64::get(device, at + port::FIRST_AT),
+        u64::get(device, at + port::END_AT),
     )
 }
 
@@ -188,7 +189,7 @@ pub fn native_at(device: &[u8]) -> u64
     requires { length device.now ≡ record_size }
     ensures { result ≡ (decode device.now).device.native }
 {
-    wire::u64_at(device, field::NATIVE_AT)
+    u64::get(device, field::NATIVE_AT)
 }
 
 // V, the visible size in sectors.
@@ -196,7 +197,7 @@ pub fn visible_at(device: &[u8]) -> u64
     requires { length device.now ≡ record_size }
     ensures { result ≡ (decode device.now).device.visible }
 {
-    wire::u64_at(device, field::VISIBLE_AT)
+    u64::get(device, field::VISIBLE_AT)
 }
 
 // The device that the record's bytes decode to.

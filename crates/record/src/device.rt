@@ -6,7 +6,7 @@ ghost use Rattle.record.specs.DeviceMeaning.{as_fill, as_feature, as_settings};
 
 use layout::PORTS;
 
-#[derive(Clone, Copy)]
+#[derive(Clone, Copy, PartialEq, Eq)]
 pub enum Stage {
     Empty,
     Held,
@@ -15,7 +15,7 @@ pub enum Stage {
 
 // A pending transfer, 01's owed transfer: the temperature table to the host, or a fill's sector from it, with the fill's first
 // sector and its end (the first sector after it). W-202: the sector at an LBA with its check bytes, to the host or from it.
-#[derive(Clone, Copy)]
+#[derive(Clone, Copy, PartialEq, Eq)]
 pub enum Transfer {
     None,
     Table,
@@ -25,7 +25,7 @@ pub enum Transfer {
 }
 
 // No fill, or one that runs: its first sector, the next to write, and its end.
-#[derive(Clone, Copy)]
+#[derive(Clone, Copy, PartialEq, Eq)]
 pub enum Fill {
     Idle,
     Running(u64, u64, u64),
@@ -42,14 +42,14 @@ pub fn next_sector(fill: Fill) -> u64
 }
 
 // A port's slot: its stage, and the transfer that the port has pending.
-#[derive(Clone, Copy)]
+#[derive(Clone, Copy, PartialEq, Eq)]
 pub struct Slot {
     pub stage: Stage,
     pub pending: Transfer,
 }
 
 // The last SCT command.
-#[derive(Clone, Copy)]
+#[derive(Clone, Copy, PartialEq, Eq)]
 pub struct Command {
     pub code: u16,
     pub action: u16,
@@ -58,14 +58,14 @@ pub struct Command {
 }
 
 // A feature's state, and whether it is kept over power: 01's mark.
-#[derive(Clone, Copy)]
+#[derive(Clone, Copy, PartialEq, Eq)]
 pub struct Feature {
     pub state: u16,
     pub persistent: bool,
 }
 
 // The recovery timers of reads and writes, in 100 ms, and the three features.
-#[derive(Clone, Copy)]
+#[derive(Clone, Copy, PartialEq, Eq)]
 pub struct Settings {
     pub read_timer: u16,
     pub write_timer: u16,
@@ -75,7 +75,7 @@ pub struct Settings {
 }
 
 // The temperatures now, of this power cycle and of the device's life; the newest reading's index; the minutes counted.
-#[derive(Clone, Copy)]
+#[derive(Clone, Copy, PartialEq, Eq)]
 pub struct Thermal {
     pub current: u8,
     pub cycle_maximum: u8,
@@ -85,7 +85,7 @@ pub struct Thermal {
 }
 
 // "four slots of 528" (1,040 since W-202): a struct for each.
-#[derive(Clone, Copy)]
+#[derive(Clone, Copy, PartialEq, Eq)]
 pub struct Device {
     pub native: u64,
     pub visible: u64,

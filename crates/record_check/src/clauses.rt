@@ -9,6 +9,7 @@ ghost use Rattle.record.specs.DeviceMeaning.{as_fill, as_settings};
 
 use layout::{HISTORY_U16, NATIVE_LIMIT, field, port, sct, table};
 use record::{Fill, Settings};
+use wire::Number;
 
 // "if a fill runs, first ≤ next < end ≤ V"; "the stored code is FFFFh exactly while a fill runs"
 fn fill_sound(visible: u64, code: u16, fill: Fill) -> bool
@@ -47,9 +48,9 @@ fn port_sound(device: &[u8], i: usize, visible: u64) -> bool
     let at = field::PORTS_AT + port::SIZE * i;
     transfer_sound(
         visible,
-        wire::u8_at(device, at + port::TRANSFER_AT),
-        wire::u64_at(device, at + port::FIRST_AT),
-        wire::u64_at(device, at + port::END_AT),
+        u8::get(device, at + port::TRANSFER_AT),
+        u64::get(device, at + port::FIRST_AT),
+        u64::get(device, at + port::END_AT),
     )
 }
 
@@ -59,7 +60,7 @@ fn port_count(device: &[u8], i: usize) -> u8
     ensures value { result ≡ pending_count (transfer_at device.now i ∷ []) }
     ensures small { result ≤ 1 }
 {
-    count_of(wire::u8_at(device, field::PORTS_AT + port::SIZE * i + port::TRANSFER_AT))
+    count_of(u8::get(device, field::PORTS_AT + port::SIZE * i + port::TRANSFER_AT))
 }
 
 // How many transfers may be pending with this fill.
@@ -139,6 +140,6 @@ pub fn device_sound(device: &[u8]) -> bool
     ((1 <= visible) & (visible <= native) & (native <= NATIVE_LIMIT))
         & command_sound(device, visible)
         & settings_sound(settings)
-        & ((wire::u16_at(device, field::MINUTES_AT) < interval)
-            & (wire::u16_at(device, table::RECORD_INDEX_AT) < HISTORY_U16))
+        & ((u16::get(device, field::MINUTES_AT) < interval)
+            & (u16::get(device, table::RECORD_INDEX_AT) < HISTORY_U16))
 }

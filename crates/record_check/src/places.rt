@@ -5,6 +5,7 @@ ghost use Rattle.store.specs.Areas.{record_size};
 ghost use Rattle.store.specs.RecordTests.{spare_runs, zero_runs, flags_named, fill_named, transfer_named, slot_named};
 
 use layout::{field, port};
+use wire::Number;
 
 // The spare bytes of the four ports.
 const PORT_0_SPARE_AT: usize = field::PORTS_AT + port::SPARE_AT;
@@ -39,7 +40,7 @@ fn flag_named(device: &[u8], at: usize) -> bool
     requires { at + 1 ≤ length device.now }
     ensures { result ≡ leb (get 1 device.now at) 1 }
 {
-    wire::u8_at(device, at) <= 1
+    u8::get(device, at) <= 1
 }
 
 pub fn flags_named(device: &[u8]) -> bool
@@ -58,10 +59,10 @@ pub fn fill_named(device: &[u8]) -> bool
     requires { length device.now ≡ record_size }
     ensures { result ≡ fill_named device.now }
 {
-    let kind = wire::u8_at(device, field::FILL_AT);
-    let first = wire::u64_at(device, field::FILL_FIRST_AT);
-    let next = wire::u64_at(device, field::FILL_NEXT_AT);
-    let end = wire::u64_at(device, field::FILL_END_AT);
+    let kind = u8::get(device, field::FILL_AT);
+    let first = u64::get(device, field::FILL_FIRST_AT);
+    let next = u64::get(device, field::FILL_NEXT_AT);
+    let end = u64::get(device, field::FILL_END_AT);
     (kind == 1) | ((kind == 0) & (first == 0) & ((next == 0) & (end == 0)))
 }
 
@@ -80,10 +81,10 @@ fn slot_named(device: &[u8], i: usize) -> bool
     ensures { result ≡ slot_named device.now i }
 {
     let at = field::PORTS_AT + port::SIZE * i;
-    let stage = wire::u8_at(device, at);
-    let kind = wire::u8_at(device, at + port::TRANSFER_AT);
-    let first = wire::u64_at(device, at + port::FIRST_AT);
-    let end = wire::u64_at(device, at + port::END_AT);
+    let stage = u8::get(device, at);
+    let kind = u8::get(device, at + port::TRANSFER_AT);
+    let first = u64::get(device, at + port::FIRST_AT);
+    let end = u64::get(device, at + port::END_AT);
     (stage <= port::ANSWERED) & transfer_named(kind, first, end)
 }
 

@@ -4,15 +4,16 @@ ghost use Rattle.model.specs.Sizes.{sector_size};
 ghost use Rattle.store.specs.RecordTests.{table_fixed};
 
 use layout::{HISTORY_U16, table};
+use wire::Number;
 
 // Whether the fixed bytes of the table at `at` have their values.
 pub fn table_fixed(run: &[u8], at: usize) -> bool
     requires { at + sector_size ≤ length run.now }
     ensures { result ≡ table_fixed run.now at }
 {
-    let versions = wire::u32_at(run, at);
-    let limits = wire::u32_at(run, at + table::LIMITS_AT);
+    let versions = u32::get(run, at);
+    let limits = u32::get(run, at + table::LIMITS_AT);
     let zero = runs::is_zero(run, at + table::ZEROS_AT, table::ZEROS);
-    let size = wire::u16_at(run, at + table::SIZE_AT);
+    let size = u16::get(run, at + table::SIZE_AT);
     (versions == table::VERSIONS) & (limits == table::LIMITS) & (zero & (size == HISTORY_U16))
 }

@@ -8,17 +8,17 @@ ghost use Rattle.record.specs.DeviceMeaning.{as_stage, as_transfer, as_fill, as_
 use crate::cases::{fill_end, fill_first, fill_kind, transfer_end, transfer_first, transfer_kind};
 use layout::{PORTS, field, port};
 use record::{Command, Device, Fill, Settings, Slot, Thermal, stage_number};
-use wire::bit_of;
+use wire::{Number, bit_of};
 
 pub fn put_sizes(device: &mut [u8], d: Device)
     requires { length device.old ≡ record_size }
     ensures device_after { device.new ≡ stores (size_fields (as_device d [])) device.old }
     ensures fits { Fit (size_fields (as_device d [])) }
 {
-    wire::put_u64(device, field::NATIVE_AT, d.native);
-    wire::put_u64(device, field::VISIBLE_AT, d.visible);
-    wire::put_u8(device, field::LOCKED_AT, bit_of(d.locked));
-    wire::put_u8(device, field::INITIALIZED_AT, bit_of(d.initialized));
+    d.native.put(device, field::NATIVE_AT);
+    d.visible.put(device, field::VISIBLE_AT);
+    bit_of(d.locked).put(device, field::LOCKED_AT);
+    bit_of(d.initialized).put(device, field::INITIALIZED_AT);
 }
 
 pub fn put_command(device: &mut [u8], c: Command)
@@ -27,10 +27,10 @@ pub fn put_command(device: &mut [u8], c: Command)
     ensures fits { Fit (command_fields (as_command c [])) }
 {
     let fill = c.fill;
-    wire::put_u8(device, field::FILL_AT, fill_kind(fill));
-    wire::put_u16(device, field::CODE_AT, c.code);
-    wire::put_u16(device, field::ACTION_AT, c.action);
-    wire::put_u16(device, field::FUNCTION_AT, c.function);
+    fill_kind(fill).put(device, field::FILL_AT);
+    c.code.put(device, field::CODE_AT);
+    c.action.put(device, field::ACTION_AT);
+    c.function.put(device, field::FUNCTION_AT);
 }
 
 pub fn put_settings(device: &mut [u8], s: Settings)
@@ -38,25 +38,13 @@ pub fn put_settings(device: &mut [u8], s: Settings)
     ensures device_after { device.new ≡ stores (settings_fields (as_settings s)) device.old }
     ensures fits { Fit (settings_fields (as_settings s)) }
 {
-    wire::put_u16(device, field::READ_TIMER_AT, s.read_timer);
-    wire::put_u16(device, field::WRITE_TIMER_AT, s.write_timer);
-    wire::put_u16(device, field::WRITE_CACHE_AT, s.write_cache.state);
-    wire::put_u16(device, field::REORDERING_AT, s.reordering.state);
-    wire::put_u8(
-        device,
-        field::WRITE_CACHE_KEPT_AT,
-        bit_of(s.write_cache.persistent),
-    );
-    wire::put_u8(
-        device,
-        field::REORDERING_KEPT_AT,
-        bit_of(s.reordering.persistent),
-    );
-    wire::put_u8(
-        device,
-        field::LOG_INTERVAL_KEPT_AT,
-        bit_of(s.log_interval.persistent),
-    );
+    s.read_timer.put(device, field::READ_TIMER_AT);
+    s.write_timer.put(device, field::WRITE_TIMER_AT);
+    s.write_cache.state.put(device, field::WRITE_CACHE_AT);
+    s.reordering.state.put(device, field::REORDERING_AT);
+    bit_of(s.write_cache.persistent).put(device, field::WRITE_CACHE_KEPT_AT);
+    bit_of(s.reordering.persistent).put(device, field::REORDERING_KEPT_AT);
+    bit_of(s.log_interval.persistent).put(device, field::LOG_INTERVAL_KEPT_AT);
 }
 
 pub fn put_thermal(device: &mut [u8], t: Thermal)
@@ -64,10 +52,10 @@ pub fn put_thermal(device: &mut [u8], t: Thermal)
     ensures device_after { device.new ≡ stores (thermal_fields (as_thermal t [])) device.old }
     ensures fits { Fit (thermal_fields (as_thermal t [])) }
 {
-    wire::put_u16(device, field::MINUTES_AT, t.minutes);
-    wire::put_u8(device, field::CURRENT_AT, t.current);
-    wire::put_u8(device, field::CYCLE_MAXIMUM_AT, t.cycle_maximum);
-    wire::put_u8(device, field::LIFE_MAXIMUM_AT, t.life_maximum);
+    t.minutes.put(device, field::MINUTES_AT);
+    t.current.put(device, field::CURRENT_AT);
+    t.cycle_maximum.put(device, field::CYCLE_MAXIMUM_AT);
+    t.life_maximum.put(device, field::LIFE_MAXIMUM_AT);
 }
 
 pub fn put_fill(device: &mut [u8], f: Fill)
@@ -75,9 +63,9 @@ pub fn put_fill(device: &mut [u8], f: Fill)
     ensures device_after { device.new ≡ stores (fill_fields (as_fill f)) device.old }
     ensures fits { Fit (fill_fields (as_fill f)) }
 {
-    wire::put_u64(device, field::FILL_FIRST_AT, fill_first(f));
-    wire::put_u64(device, field::FILL_NEXT_AT, record::next_sector(f));
-    wire::put_u64(device, field::FILL_END_AT, fill_end(f));
+    fill_first(f).put(device, field::FILL_FIRST_AT);
+    record::next_sector(f).put(device, field::FILL_NEXT_AT);
+    fill_end(f).put(device, field::FILL_END_AT);
 }
 
 fn put_slot(device: &mut [u8], i: usize, s: Slot)
@@ -88,10 +76,10 @@ fn put_slot(device: &mut [u8], i: usize, s: Slot)
     let at = field::PORTS_AT + port::SIZE * i;
     let stage = s.stage;
     let pending = s.pending;
-    wire::put_u8(device, at, stage_number(stage));
-    wire::put_u8(device, at + port::TRANSFER_AT, transfer_kind(pending));
-    wire::put_u64(device, at + port::FIRST_AT, transfer_first(pending));
-    wire::put_u64(device, at + port::END_AT, transfer_end(pending));
+    stage_number(stage).put(device, at);
+    transfer_kind(pending).put(device, at + port::TRANSFER_AT);
+    transfer_first(pending).put(device, at + port::FIRST_AT);
+    transfer_end(pending).put(device, at + port::END_AT);
 }
 
 pub fn put_slots(device: &mut [u8], slots: [Slot; PORTS])

@@ -11,14 +11,15 @@ ghost use Rattle.record_write.specs.Fits.{NumbersFit};
 use layout::{field, port, table};
 use record::{Device, Stage, stage_number};
 use record_fields::{put_command, put_fill, put_settings, put_sizes, put_slots, put_thermal};
+use wire::Number;
 
 // Writes the interval and the newest reading's index, which are in the temperature table.
 fn put_table(device: &mut [u8], interval: u16, index: u16)
     requires { length device.old ≡ record_size }
     ensures { device.new ≡ stores (table_numbers interval index) device.old }
 {
-    wire::put_u16(device, table::RECORD_INTERVAL_AT, interval);
-    wire::put_u16(device, table::RECORD_INDEX_AT, index);
+    interval.put(device, table::RECORD_INTERVAL_AT);
+    index.put(device, table::RECORD_INDEX_AT);
 }
 
 // Writes the stage of slot p, and nothing else.
@@ -26,11 +27,7 @@ pub fn put_stage(device: &mut [u8], p: usize, stage: Stage)
     requires { (length device.old ≡ record_size) × (p < 4) }
     ensures { device.new ≡ put 1 device.old (slot_at p) (stage_number (as_stage stage)) }
 {
-    wire::put_u8(
-        device,
-        field::PORTS_AT + port::SIZE * p,
-        stage_number(stage),
-    );
+    stage_number(stage).put(device, field::PORTS_AT + port::SIZE * p);
 }
 
 // Writes the device into a record; the history is unchanged.

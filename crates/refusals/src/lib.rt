@@ -3,4 +3,4 @@
 
 mod refusal;
 
-pub use refusal::{mailbox_refusal, repair_refusal, serve_refusal, visible_sectors, work_refusal};
+pub use refusal::{mailbox_checks, repair_checks, serve_checks, visible_sectors, work_checks};

@@ -8,44 +8,46 @@ ghost use Rattle.store.specs.Record.{decode};
 ghost use Rattle.store.specs.Sound.{sound};
 ghost use Rattle.store.specs.Entries.{good_port, in_stage, mailbox_checks, serve_checks, work_checks, repair_checks};
 ghost use Rattle.record.specs.DeviceMeaning.{as_stage};
+ghost use Rattle.layout.specs.Answer.{answer_of};
 
-use layout::{CHECK_U64, MAILBOX, PORTS_U32, PRIVATE, SECTOR_U64, answer};
-use record::{Stage, stage_number};
+use layout::answer::Refusal;
+use layout::{CHECK_U64, MAILBOX, PORTS_U32, PRIVATE, SECTOR_U64};
+use record::Stage;
 
 // "port above 3": 1; "slot not in the stage the step needs": 3.
-fn slot_refusal(device: &[u8], port: u32, needed: Stage) -> u32
+fn slot_checks(device: &[u8], port: u32, needed: Stage) -> Result<(), Refusal>
     requires { length device.now ≡ record_size }
-    ensures { result ≡ first_failed (good_port port ∷ in_stage (as_stage needed) device.now port ∷ []) }
+    ensures { answer_of result ≡ first_failed (good_port port ∷ in_stage (as_stage needed) device.now port ∷ []) }
 {
     if port >= PORTS_U32 {
-        return answer::BAD_PORT;
+        return Err(Refusal::BadPort);
     }
-    if stage_number(record::stage_at(device, port as usize)) != stage_number(needed) {
-        return answer::BAD_STAGE;
+    if record::stage_at(device, port as usize) != needed {
+        return Err(Refusal::BadStage);
     }
-    answer::DONE
+    Ok(())
 }
 
 // The checks of take and give. They read only the lengths of mailbox and private area, not their bytes.
-pub fn mailbox_refusal(
+pub fn mailbox_checks(
     device: &[u8],
     port: u32,
     mailbox_len: usize,
     area_len: usize,
     needed: Stage,
-) -> u32
-    ensures { (m a : List ℕ) → length m ≡ mailbox_len → length a ≡ area_len → result ≡ first_failed (mailbox_checks (as_stage needed) device.now port m a) }
+) -> Result<(), Refusal>
+    ensures { (m a : List ℕ) → length m ≡ mailbox_len → length a ≡ area_len → answer_of result ≡ first_failed (mailbox_checks (as_stage needed) device.now port m a) }
 {
     if !record_check::sound(device) {
-        return answer::BAD_RECORD;
+        return Err(Refusal::BadRecord);
     }
     if mailbox_len != MAILBOX {
-        return answer::BAD_LENGTH;
+        return Err(Refusal::BadLength);
     }
     if area_len != PRIVATE {
-        return answer::BAD_LENGTH;
+        return Err(Refusal::BadLength);
     }
-    slot_refusal(device, port, needed)
+    slot_checks(device, port, needed)
 }
 
 // Whether a disk and a check area of these lengths are those of the record's N sectors.
@@ -66,50 +68,57 @@ pub fn visible_sectors(device: &[u8]) -> usize
 }
 
 // The checks of work.
-pub fn work_refusal(device: &[u8], area_len: usize, disk_len: usize, check_len: usize) -> u32
-    ensures { (a : List ℕ) (disk : Disk) → length a ≡ area_len → length disk.sectors ≡ disk_len → length disk.check_area ≡ check_len → result ≡ first_failed (work_checks device.now a disk) }
+pub fn work_checks(
+    device: &[u8],
+    area_len: usize,
+    disk_len: usize,
+    check_len: usize,
+) -> Result<(), Refusal>
+    ensures { (a : List ℕ) (disk : Disk) → length a ≡ area_len → length disk.sectors ≡ disk_len → length disk.check_area ≡ check_len → answer_of result ≡ first_failed (work_checks device.now a disk) }
 {
     if !record_check::sound(device) {
-        return answer::BAD_RECORD;
+        return Err(Refusal::BadRecord);
     }
     if area_len != PRIVATE {
-        return answer::BAD_LENGTH;
+        return Err(Refusal::BadLength);
     }
     if !is_disk(device, disk_len, check_len) {
-        return answer::BAD_LENGTH;
+        return Err(Refusal::BadLength);
     }
-    answer::DONE
+    Ok(())
 }
 
 // The checks of serve: those of work, then port and stage.
-pub fn serve_refusal(
+pub fn serve_checks(
     device: &[u8],
     port: u32,
     area_len: usize,
     disk_len: usize,
     check_len: usize,
-) -> u32
-    ensures { (a : List ℕ) (disk : Disk) → length a ≡ area_len → length disk.sectors ≡ disk_len → length disk.check_area ≡ check_len → result ≡ first_failed (serve_checks device.now port a disk) }
+) -> Result<(), Refusal>
+    ensures { (a : List ℕ) (disk : Disk) → length a ≡ area_len → length disk.sectors ≡ disk_len → length disk.check_area ≡ check_len → answer_of result ≡ first_failed (serve_checks device.now port a disk) }
 {
-    let refusal = work_refusal(device, area_len, disk_len, check_len);
-    if refusal != answer::DONE {
-        return refusal;
-    }
-    slot_refusal(device, port, Stage::Held)
+    work_checks(device, area_len, disk_len, check_len)?;
+    slot_checks(device, port, Stage::Held)
 }
 
 // The checks of repair: "mending at or above V is answer 5".
-pub fn repair_refusal(device: &[u8], disk_len: usize, check_len: usize, lba: u64) -> u32
-    ensures { (disk : Disk) → length disk.sectors ≡ disk_len → length disk.check_area ≡ check_len → result ≡ first_failed (repair_checks device.now disk lba) }
+pub fn repair_checks(
+    device: &[u8],
+    disk_len: usize,
+    check_len: usize,
+    lba: u64,
+) -> Result<(), Refusal>
+    ensures { (disk : Disk) → length disk.sectors ≡ disk_len → length disk.check_area ≡ check_len → answer_of result ≡ first_failed (repair_checks device.now disk lba) }
 {
     if !record_check::sound(device) {
-        return answer::BAD_RECORD;
+        return Err(Refusal::BadRecord);
     }
     if !is_disk(device, disk_len, check_len) {
-        return answer::BAD_LENGTH;
+        return Err(Refusal::BadLength);
     }
     if lba >= record::visible_at(device) {
-        return answer::BAD_VALUE;
+        return Err(Refusal::BadValue);
     }
-    answer::DONE
+    Ok(())
 }

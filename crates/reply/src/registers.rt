@@ -7,7 +7,7 @@ ghost use Rattle.reply.specs.ReplyMeaning.{as_registers};
 
 use layout::{DATA, REGISTERS, ata};
 use runs::zero_part;
-use wire::put_u8;
+use wire::Number;
 
 // The number of values of a byte: the value's low and high byte are in two registers.
 const BYTE: u16 = 256;
@@ -64,11 +64,11 @@ fn put_registers(area: &mut [u8], at: usize, r: Reply)
     ensures { area.new ≡ sets area.old at (registers_bytes (as_registers r)) }
 {
     zero_part(area, at, REGISTERS);
-    put_u8(area, at + ata::COUNT_AT, (r.value % BYTE) as u8);
-    put_u8(area, at + ata::LBA_LOW_AT, (r.value / BYTE) as u8);
-    put_u8(area, at + ata::LBA_MID_AT, r.lba_mid);
-    put_u8(area, at + ata::STATUS_AT, r.status);
-    put_u8(area, at + ata::ERROR_AT, r.error);
+    ((r.value % BYTE) as u8).put(area, at + ata::COUNT_AT);
+    ((r.value / BYTE) as u8).put(area, at + ata::LBA_LOW_AT);
+    r.lba_mid.put(area, at + ata::LBA_MID_AT);
+    r.status.put(area, at + ata::STATUS_AT);
+    r.error.put(area, at + ata::ERROR_AT);
 }
 
 // Writes a reply without data. ".. and the sector is zeros unless data is returned."

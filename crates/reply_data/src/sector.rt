@@ -17,7 +17,7 @@ use record::{Command, Device, Fill, Thermal};
 use reply::{Reply, put_reply, refused};
 use runs::copy_part;
 use sector_check::check_of;
-use wire::{put_u8, put_u16, put_u32, put_u64, u16_at};
+use wire::Number;
 
 // "state at 10 (0, or 5 with a fill)"
 fn drive_state(fill: Fill) -> u8
@@ -34,15 +34,11 @@ fn put_head(area: &mut [u8], at: usize, initialized: bool, fill: Fill)
     requires { at + sector_size ≤ length area.old }
     ensures { area.new ≡ stores (placed at (status_head initialized (as_fill fill))) area.old }
 {
-    put_u16(area, at, status::FORMAT);
-    put_u16(area, at + status::VERSION_AT, status::VERSION);
-    put_u16(area, at + status::SPEC_AT, status::SPEC);
-    put_u32(
-        area,
-        at + status::FLAGS_AT,
-        wire::bit_of(initialized) as u32,
-    );
-    put_u8(area, at + status::STATE_AT, drive_state(fill));
+    status::FORMAT.put(area, at);
+    status::VERSION.put(area, at + status::VERSION_AT);
+    status::SPEC.put(area, at + status::SPEC_AT);
+    (wire::bit_of(initialized) as u32).put(area, at + status::FLAGS_AT);
+    drive_state(fill).put(area, at + status::STATE_AT);
 }
 
 // "code 14; action 16; function 18; LBA 40-47 the next sector, 0 with no fill"
@@ -50,11 +46,11 @@ fn put_command(area: &mut [u8], at: usize, c: Command)
     requires { at + sector_size ≤ length area.old }
     ensures { area.new ≡ stores (placed at (status_command (as_command c []))) area.old }
 {
-    put_u16(area, at + status::CODE_AT, c.code);
-    put_u16(area, at + status::ACTION_AT, c.action);
-    put_u16(area, at + status::FUNCTION_AT, c.function);
+    c.code.put(area, at + status::CODE_AT);
+    c.action.put(area, at + status::ACTION_AT);
+    c.function.put(area, at + status::FUNCTION_AT);
     let fill = c.fill;
-    put_u64(area, at + status::LBA_AT, record::next_sector(fill));
+    record::next_sector(fill).put(area, at + status::LBA_AT);
 }
 
 // "temperatures at 200 (now), 202 (this power cycle), 204 (life)"
@@ -62,9 +58,9 @@ fn put_temperatures(area: &mut [u8], at: usize, t: Thermal)
     requires { at + sector_size ≤ length area.old }
     ensures { area.new ≡ stores (placed at (status_temperatures (as_thermal t []))) area.old }
 {
-    put_u8(area, at + status::CURRENT_AT, t.current);
-    put_u8(area, at + status::CYCLE_MAXIMUM_AT, t.cycle_maximum);
-    put_u8(area, at + status::LIFE_MAXIMUM_AT, t.life_maximum);
+    t.current.put(area, at + status::CURRENT_AT);
+    t.cycle_maximum.put(area, at + status::CYCLE_MAXIMUM_AT);
+    t.life_maximum.put(area, at + status::LIFE_MAXIMUM_AT);
 }
 
 // The status sector. "All else 0."
@@ -110,7 +106,7 @@ pub fn put_read(area: &mut [u8], at: usize, reply: Reply, disk: &[u8], check_are
     requires { (at + mailbox_size ≤ length area.old) × (sector_size * lba + sector_size ≤ length disk.now) × (check_size * lba + check_size ≤ length check_area.now) }
     ensures { area.new ≡ sets area.old at (read_reply (as_registers reply) (sector_at lba (disk_of disk.now check_area.now))) }
 {
-    let stored = u16_at(check_area, (CHECK_U64 * lba) as usize);
+    let stored = u16::get(check_area, (CHECK_U64 * lba) as usize);
     if stored != check_of(disk, (SECTOR_U64 * lba) as usize) {
         put_reply(area, at, refused(ata::ERROR_UNCORRECTABLE));
         return;
@@ -124,6 +120,6 @@ pub fn put_long(area: &mut [u8], at: usize, reply: Reply, disk: &[u8], check_are
     ensures { area.new ≡ sets area.old at (reply_bytes (as_registers reply) (long_bytes (sector_at lba (disk_of disk.now check_area.now)))) }
 {
     put_sector(area, at, reply, disk, lba);
-    let stored = u16_at(check_area, (CHECK_U64 * lba) as usize);
-    put_u16(area, at + REGISTERS + SECTOR, stored);
+    let stored = u16::get(check_area, (CHECK_U64 * lba) as usize);
+    stored.put(area, at + REGISTERS + SECTOR);
 }

@@ -8,7 +8,7 @@ ghost use Rattle.request.specs.RequestMeaning.{as_request};
 
 use layout::ata;
 use record::Direction;
-use wire::{u8_at, u16_at};
+use wire::Number;
 
 // A request that "first stops a running fill (code 0008h) and drops an owed transfer". Data is E1h, with its sector count; Sector is 24h or 34h,
 // with its sector count and its LBA. Other is "All else, and E0h with another count".
@@ -77,11 +77,11 @@ fn smart_log(area: &[u8], at: usize) -> Request
     requires { at + mailbox_size ≤ length area.now }
     ensures { as_request result ≡ smart_log (part area.now at mailbox_size) }
 {
-    let feature = u8_at(area, at);
-    let count = u8_at(area, at + ata::COUNT_AT);
-    let page = u8_at(area, at + ata::LBA_LOW_AT);
-    let mid = u8_at(area, at + ata::LBA_MID_AT);
-    let high = u8_at(area, at + ata::LBA_HIGH_AT);
+    let feature = u8::get(area, at);
+    let count = u8::get(area, at + ata::COUNT_AT);
+    let page = u8::get(area, at + ata::LBA_LOW_AT);
+    let mid = u8::get(area, at + ata::LBA_MID_AT);
+    let high = u8::get(area, at + ata::LBA_HIGH_AT);
     smart_page(feature, count, page, mid, high)
 }
 
@@ -90,13 +90,13 @@ fn log_ext(dir: Direction, area: &[u8], at: usize) -> Request
     requires { at + mailbox_size ≤ length area.now }
     ensures { as_request result ≡ log_ext (as_direction dir) (part area.now at mailbox_size) }
 {
-    if u16_at(area, at + ata::LBA_MID_AT) != 0 {
+    if u16::get(area, at + ata::LBA_MID_AT) != 0 {
         return Request::Operation(Operation::Other);
     }
     log_page(
         dir,
-        u8_at(area, at + ata::LBA_LOW_AT),
-        u16_at(area, at + ata::COUNT_AT),
+        u8::get(area, at + ata::LBA_LOW_AT),
+        u16::get(area, at + ata::COUNT_AT),
     )
 }
 
@@ -120,14 +120,14 @@ fn lba48(area: &[u8], at: usize) -> u64
     ensures { result ≡ lba48 (part area.now at mailbox_size) }
 {
     let current = join24(
-        u8_at(area, at + ata::LBA_LOW_AT),
-        u8_at(area, at + ata::LBA_MID_AT),
-        u8_at(area, at + ata::LBA_HIGH_AT),
+        u8::get(area, at + ata::LBA_LOW_AT),
+        u8::get(area, at + ata::LBA_MID_AT),
+        u8::get(area, at + ata::LBA_HIGH_AT),
     );
     let previous = join24(
-        u8_at(area, at + ata::LBA_LOW_PREVIOUS_AT),
-        u8_at(area, at + ata::LBA_MID_PREVIOUS_AT),
-        u8_at(area, at + ata::LBA_HIGH_PREVIOUS_AT),
+        u8::get(area, at + ata::LBA_LOW_PREVIOUS_AT),
+        u8::get(area, at + ata::LBA_MID_PREVIOUS_AT),
+        u8::get(area, at + ata::LBA_HIGH_PREVIOUS_AT),
     );
     current + THREE_BYTES * previous
 }
@@ -137,7 +137,7 @@ fn sector(dir: Direction, area: &[u8], at: usize) -> Request
     requires { at + mailbox_size ≤ length area.now }
     ensures { as_request result ≡ sector_access (as_direction dir) (count16 (part area.now at mailbox_size)) (lba48 (part area.now at mailbox_size)) }
 {
-    let count = u16_at(area, at + ata::COUNT_AT);
+    let count = u16::get(area, at + ata::COUNT_AT);
     let lba = lba48(area, at);
     Request::Operation(Operation::Sector(dir, count, lba))
 }
@@ -147,7 +147,7 @@ pub fn request_of(area: &[u8], at: usize) -> Request
     requires { at + mailbox_size ≤ length area.now }
     ensures { as_request result ≡ request_of (part area.now at mailbox_size) }
 {
-    let command = u8_at(area, at + ata::COMMAND_AT);
+    let command = u8::get(area, at + ata::COMMAND_AT);
     if command == ata::SMART {
         return smart_log(area, at);
     }

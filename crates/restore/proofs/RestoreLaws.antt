@@ -2,7 +2,7 @@
 use Rattle.std.specs.Prelude.{if◌then◌else◌}
 use mathlib.Core.Path.{◌≡◌, sym, ap, ◌∙◌, subst}
 use mathlib.Core.Bool.{Bool, true, false}
-use Prim.Native.Nat.{ℕ, ◌+◌, ◌-◌, ◌≤◌}
+use Prim.Native.Nat.{ℕ, ◌+◌, ◌-◌, ◌%◌, ◌≤◌}
 use native.Mathlib.Omega.{arith}
 use mathlib.Core.List.{List}
 use lib.ListN.{length, replicate}
@@ -28,7 +28,7 @@ use Rattle.record_write.specs.Framed.{Framed}
 use Rattle.record_write.specs.Blank.{blank_record}
 use Rattle.record_write.proofs.FramedLaws.{history-stored}
 use Rattle.record_write.proofs.BlankLaws.{blank-framed, blank-history}
-use Rattle.image.proofs.ImageAnswers.{read-readable, read-entry}
+use Rattle.image.proofs.ImageAnswers.{read-readable}
 
 -- a device with these values, and everything else as power-on sets it
 abbrev pub powered_device : ℕ → ℕ → Bool → ℕ → Settings → ℕ → List ℕ → Device
@@ -114,8 +114,9 @@ module _ (native : ℕ) (image : List ℕ) (used : ℕ) where
   unfolding restored
   restored-blank e = rw (eq-eqb used 0 e)
 
-  pub restored-newest : first_failed (image_checks native image used) ≡ 0 → (used ≡ 0 → ⊥) → saved_at image (used - entry_size) ≡ restored native image used
+  pub restored_last : used % entry_size ≡ 0 → (used ≡ 0 → ⊥) → saved_at image (used - entry_size) ≡ restored native image used
   unfolding restored
-  restored-newest e some =
-      let even = (readable-parts image used (read-readable native image used e)).multiple in
-      sym (rw (ne_eqb used 0 some) (newest-at image used even (read-entry native image used e some).0))
+  restored_last whole some = sym (rw (ne_eqb used 0 some) (newest-at image used whole (omega (arith, whole, some))))
+
+  pub restored-newest : first_failed (image_checks native image used) ≡ 0 → (used ≡ 0 → ⊥) → saved_at image (used - entry_size) ≡ restored native image used
+  restored-newest e some = restored_last (readable-parts image used (read-readable native image used e)).multiple some

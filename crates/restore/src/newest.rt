@@ -1,17 +1,19 @@
 // What power-on restores: the device of the newest entry, or that of an empty image.
-ghost use Rattle.std.specs.Prelude.{◌≡◌, ◌+◌, ◌≤◌, length, replicate, eqb, if◌then◌else◌};
+ghost use Rattle.std.specs.Prelude.{◌≡◌, ◌+◌, ◌%◌, ◌≤◌, length, replicate, eqb, if◌then◌else◌};
 ghost use Rattle.std.proofs.lemmas.List.Edits.{sets};
-ghost use Rattle.wire.specs.Choice.{first_failed};
-ghost use Rattle.model.specs.Sizes.{port_count, body_size};
+ghost use Rattle.wire.specs.Numbers.{get};
+ghost use Rattle.model.specs.Sizes.{port_count, entry_size};
 ghost use Rattle.model.specs.Temperature.{table_head_size, empty_history, empty_index};
-ghost use Rattle.model.specs.Image.{Saved, has_bit, saved_at, image_checks, blank, power_on_settings, power_on_thermal, power_on, restored};
+ghost use Rattle.model.specs.Image.{Saved, has_bit, options_place, saved_at, blank, power_on_settings, power_on_thermal, power_on, restored};
 ghost use Rattle.store.specs.Areas.{head_size, record_size};
 ghost use Rattle.store.specs.Record.{empty, encode};
 ghost use Rattle.store.specs.Entries.{restored_contents};
 ghost use Rattle.record.specs.DeviceMeaning.{as_settings, as_device, stages_of};
 
+use entry_timers::{Timers, timers_at, timers_meant};
 use layout::{EMPTY_INDEX, ENTRY, HISTORY, MISSING, entry, sct, table};
 use record::{Command, Device, Feature, Fill, Settings, Slot, Stage, Thermal, Transfer};
+use wire::Number;
 
 // Whether the bit of a weight (1, 2, 4 ..) is 1 in a byte.
 fn has_bit(weight: u8, byte: u8) -> bool
@@ -21,28 +23,28 @@ fn has_bit(weight: u8, byte: u8) -> bool
     byte / weight % 2 == 1
 }
 
-// The settings of the entry at `at`, as power-on keeps them; W-204: ".. the read and write timers, which power-on then restores".
-fn saved_settings(image: &[u8], at: usize) -> Settings
-    requires { at + body_size ≤ length image.now }
-    ensures { as_settings result ≡ power_on_settings (saved_at image.now at) }
+// A feature of an entry, whose state is at `at`, and whose mark is this option.
+fn saved_feature(entry: &[u8; ENTRY], at: usize, option: u8) -> Feature
+    requires { (at + 2 ≤ entry_size) × (1 ≤ option) }
+    ensures state { result.state ≡ get 2 entry.now at }
+    ensures persistent { result.persistent ≡ has_bit option (get 1 entry.now options_place) }
 {
-    let options = wire::u8_at(image, at + entry::OPTIONS_AT);
-    let write_cache = Feature {
-        state: wire::u16_at(image, at + entry::CACHE_AT),
-        persistent: has_bit(entry::WRITE_CACHE_OPTION, options),
-    };
-    let reordering = Feature {
-        state: wire::u16_at(image, at + entry::REORDERING_AT),
-        persistent: has_bit(entry::REORDERING_OPTION, options),
-    };
-    let log_interval = Feature {
-        state: wire::u16_at(image, at + entry::INTERVAL_AT),
-        persistent: has_bit(entry::LOG_INTERVAL_OPTION, options),
-    };
-    let timers = entry_timers::timers_at(image, at);
-    let for_read = entry_timers::read_timer(timers);
-    let for_write = entry_timers::write_timer(timers);
-    Settings::power_on(for_read, for_write, write_cache, reordering, log_interval)
+    Feature {
+        state: u16::get(entry, at),
+        persistent: has_bit(option, u8::get(entry, entry::OPTIONS_AT)),
+    }
+}
+
+// The settings of an entry, as power-on keeps them; W-204: ".. the read and write timers, which power-on then restores".
+#[tactic(auto, unfolding(model::specs::Image::saved_at))]
+fn saved_settings(entry: &[u8; ENTRY]) -> Settings
+    ensures { as_settings result ≡ power_on_settings (saved_at entry.now 0) }
+{
+    let Timers { read, write } = timers_meant(timers_at(entry));
+    let write_cache = saved_feature(entry, entry::CACHE_AT, entry::WRITE_CACHE_OPTION);
+    let reordering = saved_feature(entry, entry::REORDERING_AT, entry::REORDERING_OPTION);
+    let log_interval = saved_feature(entry, entry::INTERVAL_AT, entry::LOG_INTERVAL_OPTION);
+    Settings::power_on(read, write, write_cache, reordering, log_interval)
 }
 
 // A device at power-on: "Unlocked, no fill, nothing owed, .. code, action and function 0".
@@ -94,44 +96,43 @@ fn blank_device(native: u64) -> Device
 }
 
 // "The history is kept if the interval after power-on equals the saved one": the index that is kept.
-fn kept_index(image: &[u8], at: usize, interval: u16) -> u16
-    requires { at + body_size ≤ length image.now }
-    ensures { result ≡ (if eqb interval (saved_at image.now at).log_interval.state then (saved_at image.now at).index else empty_index) }
+#[tactic(auto, unfolding(model::specs::Image::saved_at))]
+fn kept_index(entry: &[u8; ENTRY], interval: u16) -> u16
+    ensures { result ≡ (if eqb interval (saved_at entry.now 0).log_interval.state then (saved_at entry.now 0).index else empty_index) }
 {
-    if interval == wire::u16_at(image, at + entry::INTERVAL_AT) {
-        wire::u16_at(image, at + entry::INDEX_AT)
+    if interval == u16::get(entry, entry::INTERVAL_AT) {
+        u16::get(entry, entry::INDEX_AT)
     } else {
         EMPTY_INDEX
     }
 }
 
-// The device of the entry at `at`.
-fn saved_device(image: &[u8], at: usize) -> Device
-    requires { at + body_size ≤ length image.now }
-    ensures at_value { as_device result (power_on_thermal (saved_at image.now at)).history ≡ power_on (saved_at image.now at) }
+// The device of an entry.
+fn saved_device(entry: &[u8; ENTRY]) -> Device
+    ensures at_value { as_device result (power_on_thermal (saved_at entry.now 0)).history ≡ power_on (saved_at entry.now 0) }
     ensures stages { stages_of result.slots ≡ replicate port_count empty }
 {
-    let native = wire::u64_at(image, at + entry::NATIVE_AT);
-    let visible = wire::u64_at(image, at + entry::VISIBLE_AT);
-    let initialized = wire::u8_at(image, at + entry::FLAG_AT) == 1;
-    let life = wire::u8_at(image, at + entry::LIFE_AT);
-    let settings = saved_settings(image, at);
+    let native = u64::get(entry, entry::NATIVE_AT);
+    let visible = u64::get(entry, entry::VISIBLE_AT);
+    let initialized = u8::get(entry, entry::FLAG_AT) == 1;
+    let life = u8::get(entry, entry::LIFE_AT);
+    let settings = saved_settings(entry);
     let interval = settings.log_interval.state;
-    let index = kept_index(image, at, interval);
+    let index = kept_index(entry, interval);
     powered(native, visible, initialized, life, settings, index)
 }
 
-// Copies the history of the entry at `at` into the record, if the interval is still the entry's.
-fn put_history(device: &mut [u8], image: &[u8], at: usize, interval: u16)
-    requires { (length device.old ≡ record_size) × (at + body_size ≤ length image.now) }
-    ensures { device.new ≡ (if eqb interval (saved_at image.now at).log_interval.state then sets device.old (head_size + table_head_size) (saved_at image.now at).history else device.old) }
+// Copies the history of an entry into the record, if the interval is still the entry's.
+fn put_history(device: &mut [u8], entry: &[u8; ENTRY], interval: u16)
+    requires { length device.old ≡ record_size }
+    ensures { device.new ≡ (if eqb interval (saved_at entry.now 0).log_interval.state then sets device.old (head_size + table_head_size) (saved_at entry.now 0).history else device.old) }
 {
-    if interval == wire::u16_at(image, at + entry::INTERVAL_AT) {
+    if interval == u16::get(entry, entry::INTERVAL_AT) {
         runs::copy_part(
             device,
             table::RECORD_HISTORY_AT,
-            image,
-            at + entry::HISTORY_AT,
+            entry,
+            entry::HISTORY_AT,
             HISTORY,
         );
     }
@@ -147,27 +148,26 @@ fn restore_blank(device: &mut [u8], native: u64)
     record_write::write(device, d);
 }
 
-// The record of the device of the entry at `at`.
-fn restore_entry(device: &mut [u8], image: &[u8], at: usize)
-    requires { (length device.old ≡ record_size) × (at + body_size ≤ length image.now) }
-    ensures { device.new ≡ encode (restored_contents (saved_at image.now at)) }
+// The record of the device of an entry.
+fn restore_entry(device: &mut [u8], entry: &[u8; ENTRY])
+    requires { length device.old ≡ record_size }
+    ensures { device.new ≡ encode (restored_contents (saved_at entry.now 0)) }
 {
-    let d = saved_device(image, at);
+    let d = saved_device(entry);
     let interval = d.settings.log_interval.state;
     record_write::frame(device);
-    put_history(device, image, at, interval);
+    put_history(device, entry, interval);
     record_write::write(device, d);
 }
 
-// The record after a power-on from this image, on a disk of `native` sectors.
-pub fn put_restored(device: &mut [u8], native: u64, image: &[u8], used: usize)
+// The record after a power-on from this chain of entries, on a disk of `native` sectors.
+pub fn put_restored(device: &mut [u8], native: u64, chain: &[u8])
     requires device_len { length device.old ≡ record_size }
-    requires readable { first_failed (image_checks native image.now used) ≡ 0 }
-    ensures { device.new ≡ encode (restored_contents (restored native image.now used)) }
+    requires whole { length chain.now % entry_size ≡ 0 }
+    ensures { device.new ≡ encode (restored_contents (restored native chain.now (length chain.now))) }
 {
-    if used == 0 {
-        restore_blank(device, native);
-    } else {
-        restore_entry(device, image, used - ENTRY);
+    match chain.last_chunk::<ENTRY>() {
+        None => restore_blank(device, native),
+        Some(newest) => restore_entry(device, newest),
     }
 }

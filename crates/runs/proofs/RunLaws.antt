@@ -1,17 +1,14 @@
--- Laws of runs with one more byte at the end, as a loop over their bytes builds them.
+-- Laws of runs with one more byte at the end, as a loop over their bytes builds them, and of what `copy_within` leaves.
 use mathlib.Core.Path.{◌≡◌, sym, ap, ◌∙◌}
 use mathlib.Core.Bool.{◌&&◌, and-true, and_assoc}
 use Prim.Native.Nat.{ℕ, suc, ◌+◌, ◌≤◌, ◌<◌}
-use native.Mathlib.Numerals.{add-one}
 use native.Mathlib.Omega.{arith}
 use mathlib.Core.List.{List, [], ◌∷◌, ◌++◌}
-use lib.ListN.{length, get_or, set, drop, length-drop, length-replicate, replicate, replicate-append-replicate}
-use lib.Seq.{sets, take-suc, get_or-drop}
+use lib.ListN.{length, get_or, set, drop, length-drop}
+use lib.Seq.{sets, sets-eq, paste, take-suc, get_or-drop}
 use lib.Dec.{eqb}
-use Rattle.wire.specs.Numbers.{get, put}
 use Rattle.wire.specs.Parts.{part}
-use Rattle.wire.specs.Bytes.{Bytes, same, all_zero}
-use Rattle.wire.proofs.FormUnique.{le-part}
+use Rattle.wire.specs.Bytes.{same, all_zero}
 use Rattle.wire.proofs.PartsLaws.{length_part, sets-append}
 
 part-snoc : (l : List ℕ) (b j : ℕ) → b + j < length l → part l b (suc j) ≡ part l b j ++ (get_or l (b + j) 0 ∷ [])
@@ -27,14 +24,10 @@ pub copy_more : (d l : List ℕ) (at b j : ℕ) → b + j < length l → set (se
 copy_more d l at b j h =
     sets-snoc d (part l b j) at j (get_or l (b + j) 0) (length_part l b j (omega arith)) ∙ ap (sets d at) (sym (part-snoc l b j h))
 
-pub replicate_more : (d : List ℕ) (at j a : ℕ) → set (sets d at (replicate j a)) (at + j) a ≡ sets d at (replicate (suc j) a)
-replicate_more d at j a =
-    sets-snoc d (replicate j a) at j a (length-replicate j a)
-    ∙ ap (sets d at) (replicate-append-replicate j 1 a ∙ ap (λ (n : ℕ). replicate n a) (add-one j))
-
-pub put-read : (k : ℕ) (d l : List ℕ) (to from : ℕ) → Bytes l → from + k ≤ length l → put k d to (get k l from) ≡ sets d to (part l from k)
-unfolding put
-put-read k d l to from b h = ap (sets d to) (le-part k l from b h)
+-- what `copy_within` leaves
+pub pasted : (l : List ℕ) (to from m n : ℕ) → m ≡ n → from + n ≤ length l → to + n ≤ length l → paste l to (drop from l) m ≡ sets l to (part l from n)
+pasted l to from m n same h k =
+    let e : length (part l from n) ≡ n = length_part l from n h in rw (sets-eq (part l from n) l to (omega (arith, e)), e, same)
 
 -- ---- tests
 

@@ -4,5 +4,5 @@
 mod run;
 
 pub use run::{
-    copy_part, copy_within, is_zero, repeat_u16, repeat_within, same_part, set_part, zero_part,
+    copy_part, copy_within, is_zero, repeat, repeat_within, same_part, set_part, zero_part,
 };

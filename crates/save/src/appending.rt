@@ -10,22 +10,23 @@ ghost use Rattle.model.specs.Image.{saved_from, head_size, sizes_of, features_of
 ghost use Rattle.store.specs.Areas.{record_size};
 ghost use Rattle.store.specs.Record.{flag_of, decode};
 ghost use Rattle.store.specs.Sound.{sound};
+ghost use Rattle.entry_timers.specs.TimersMeaning.{form_number};
 
-use entry_timers::timers_in;
+use entry_timers::{Form, Timers, timers_in};
 use image::{TAG, chain_form, previous_place};
 use layout::{BODY, BODY_U32, ENTRY, SECTOR, TABLE_AT, entry, field, table};
+use wire::Number;
 
 // Writes trailer `number` at `at`.
 fn put_trailer(image: &mut [u8], at: usize, number: u32)
     requires { (at + trailer_size ≤ length image.old) × (1 ≤ number) × (number ≤ entry_limit) }
     ensures { image.new ≡ sets image.old at (trailer_bytes number) }
 {
-    let letters = TAG;
     runs::zero_part(image, at, entry::TAG_AT);
-    wire::put_u32(image, at, BODY_U32);
-    wire::put_u32(image, at + entry::LINK_AT, previous_place(number));
-    wire::put_u32(image, at + entry::NUMBER_AT, number);
-    runs::copy_part(image, at + entry::TAG_AT, &letters, 0, entry::TAG);
+    BODY_U32.put(image, at);
+    previous_place(number).put(image, at + entry::LINK_AT);
+    number.put(image, at + entry::NUMBER_AT);
+    runs::copy_part(image, at + entry::TAG_AT, &TAG, 0, entry::TAG);
 }
 
 // The flag in the record's byte at `at`, as 0 or 1.
@@ -34,7 +35,7 @@ fn flag_bit(device: &[u8], at: usize) -> u8
     ensures value { result ≡ bit (flag_of (get 1 device.now at)) }
     ensures small { result ≤ 1 }
 {
-    wire::bit_of(wire::u8_at(device, at) == 1)
+    u8::from(u8::get(device, at) == 1)
 }
 
 // "kept marks in bits 0 to 2 of byte 24"
@@ -48,70 +49,47 @@ fn options(device: &[u8]) -> u8
 }
 
 // Clears the head of a body at `at`, and writes N, V, the flag and the life maximum.
+#[tactic(auto, unfolding(model::specs::Image::saved_from, store::specs::Record::decode))]
 fn put_sizes(image: &mut [u8], at: usize, device: &[u8])
     requires { (at + head_size ≤ length image.old) × (length device.now ≡ record_size) }
     ensures { (entry_form : ℕ) → image.new ≡ stores (placed at (sizes_of (saved_from entry_form (decode device.now).device))) (sets image.old at (zeros head_size)) }
 {
     runs::zero_part(image, at, entry::TABLE_AT);
-    wire::put_u64(
-        image,
-        at + entry::NATIVE_AT,
-        wire::u64_at(device, field::NATIVE_AT),
-    );
-    wire::put_u64(
-        image,
-        at + entry::VISIBLE_AT,
-        wire::u64_at(device, field::VISIBLE_AT),
-    );
-    wire::put_u8(
-        image,
-        at + entry::FLAG_AT,
-        flag_bit(device, field::INITIALIZED_AT),
-    );
-    wire::put_u8(
-        image,
-        at + entry::LIFE_AT,
-        wire::u8_at(device, field::LIFE_MAXIMUM_AT),
-    );
+    u64::get(device, field::NATIVE_AT).put(image, at + entry::NATIVE_AT);
+    u64::get(device, field::VISIBLE_AT).put(image, at + entry::VISIBLE_AT);
+    flag_bit(device, field::INITIALIZED_AT).put(image, at + entry::FLAG_AT);
+    u8::get(device, field::LIFE_MAXIMUM_AT).put(image, at + entry::LIFE_AT);
 }
 
 // Writes the features of a body at `at`, and their marks.
+#[tactic(auto, unfolding(model::specs::Image::saved_from, store::specs::Record::decode))]
 fn put_features(image: &mut [u8], at: usize, device: &[u8])
     requires { (at + head_size ≤ length image.old) × (length device.now ≡ record_size) }
     ensures { (entry_form : ℕ) → image.new ≡ stores (placed at (features_of (saved_from entry_form (decode device.now).device))) image.old }
 {
-    wire::put_u16(
-        image,
-        at + entry::CACHE_AT,
-        wire::u16_at(device, field::WRITE_CACHE_AT),
-    );
-    wire::put_u16(
-        image,
-        at + entry::REORDERING_AT,
-        wire::u16_at(device, field::REORDERING_AT),
-    );
-    wire::put_u16(
-        image,
-        at + entry::INTERVAL_AT,
-        wire::u16_at(device, table::RECORD_INTERVAL_AT),
-    );
-    wire::put_u8(image, at + entry::OPTIONS_AT, options(device));
+    u16::get(device, field::WRITE_CACHE_AT).put(image, at + entry::CACHE_AT);
+    u16::get(device, field::REORDERING_AT).put(image, at + entry::REORDERING_AT);
+    u16::get(device, table::RECORD_INTERVAL_AT).put(image, at + entry::INTERVAL_AT);
+    options(device).put(image, at + entry::OPTIONS_AT);
 }
 
 // Writes the timers of a body of this form at `at`.
-fn put_timers(image: &mut [u8], at: usize, entry_form: u32, device: &[u8])
+#[tactic(auto, unfolding(model::specs::Image::saved_from, store::specs::Record::decode))]
+fn put_timers(image: &mut [u8], at: usize, form: Form, device: &[u8])
     requires { (at + body_size ≤ length image.old) × (length device.now ≡ record_size) }
-    ensures { image.new ≡ stores (placed at (timer_fields (saved_from entry_form (decode device.now).device).timers)) image.old }
+    ensures { image.new ≡ stores (placed at (timer_fields (saved_from (form_number form) (decode device.now).device).timers)) image.old }
 {
-    let for_read = wire::u16_at(device, field::READ_TIMER_AT);
-    let for_write = wire::u16_at(device, field::WRITE_TIMER_AT);
-    entry_timers::put_timers(image, at, timers_in(entry_form, for_read, for_write));
+    let timers = Timers {
+        read: u16::get(device, field::READ_TIMER_AT),
+        write: u16::get(device, field::WRITE_TIMER_AT),
+    };
+    entry_timers::put_timers(image, at, timers_in(form, timers));
 }
 
 // Writes the head of a body of this form at `at`.
-fn put_head(image: &mut [u8], at: usize, entry_form: u32, device: &[u8])
+fn put_head(image: &mut [u8], at: usize, entry_form: Form, device: &[u8])
     requires { (at + body_size ≤ length image.old) × (length device.now ≡ record_size) }
-    ensures { image.new ≡ sets image.old at (form head_size (head_fields (saved_from entry_form (decode device.now).device))) }
+    ensures { image.new ≡ sets image.old at (form head_size (head_fields (saved_from (form_number entry_form) (decode device.now).device))) }
 {
     put_sizes(image, at, device);
     put_features(image, at, device);
@@ -124,7 +102,7 @@ pub fn put_entry(image: &mut [u8], used: usize, device: &[u8])
     requires room { (used + entry_size ≤ length image.old) × (used % entry_size ≡ 0) × (used / entry_size < entry_limit) }
     ensures { image.new ≡ saved_image (decode device.now).device image.old used }
 {
-    let entry_form = chain_form(image, used);
+    let entry_form = chain_form(&image[..used]);
     put_head(image, used, entry_form, device);
     runs::copy_part(image, used + entry::TABLE_AT, device, TABLE_AT, SECTOR);
     put_trailer(image, used + BODY, (used / ENTRY) as u32 + 1);

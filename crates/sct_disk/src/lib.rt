@@ -13,4 +13,5 @@ pub use images::{sct_convert, sct_power_on, sct_save};
 pub use owner::{sct_lock, sct_sample, sct_set_visible, sct_unlock};
 pub use ports::{sct_give, sct_serve, sct_take};
 pub use repairs::sct_repair;
+pub use result::result_of;
 pub use works::sct_work;

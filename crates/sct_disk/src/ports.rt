@@ -2,25 +2,29 @@
 ghost use Rattle.std.specs.Prelude.{◌≡◌};
 ghost use Rattle.model.specs.Disk.{disk_of};
 ghost use Rattle.store.specs.Entries.{take_bytes, serve_bytes, give_bytes};
+ghost use Rattle.layout.specs.Answer.{answer_of};
 
-use layout::{CHECK, MAILBOX, SECTOR, answer};
+use layout::answer::Refusal;
+use layout::{CHECK, MAILBOX, SECTOR};
 use record::Stage;
-use refusals::{mailbox_refusal, serve_refusal, visible_sectors};
+use refusals::{mailbox_checks, serve_checks, visible_sectors};
 
 // "Take (port): copies the mailbox into the port's slot. Slot goes from empty to held."
-pub fn sct_take(device: &mut [u8], port: u32, mailbox: &[u8], area: &mut [u8]) -> u32
-    ensures value { result ≡ (take_bytes device.old port mailbox.now area.old).answer }
+pub fn sct_take(
+    device: &mut [u8],
+    port: u32,
+    mailbox: &[u8],
+    area: &mut [u8],
+) -> Result<(), Refusal>
+    ensures value { answer_of result ≡ (take_bytes device.old port mailbox.now area.old).answer }
     ensures device { device.new ≡ (take_bytes device.old port mailbox.now area.old).record_area }
     ensures area { area.new ≡ (take_bytes device.old port mailbox.now area.old).private_area }
 {
-    let refusal = mailbox_refusal(device, port, mailbox.len(), area.len(), Stage::Empty);
-    if refusal != answer::DONE {
-        return refusal;
-    }
+    mailbox_checks(device, port, mailbox.len(), area.len(), Stage::Empty)?;
     let p = port as usize;
     runs::copy_part(area, MAILBOX * p, mailbox, 0, MAILBOX);
     record_write::put_stage(device, p, Stage::Held);
-    answer::DONE
+    Ok(())
 }
 
 // "Serve (port): answers the held request from the slot alone and leaves the reply in the slot. Held to answered."
@@ -30,17 +34,14 @@ pub fn sct_serve(
     area: &mut [u8],
     disk: &mut [u8],
     check_area: &mut [u8],
-) -> u32
-    ensures value { result ≡ (serve_bytes device.old port area.old (disk_of disk.old check_area.old)).answer }
+) -> Result<(), Refusal>
+    ensures value { answer_of result ≡ (serve_bytes device.old port area.old (disk_of disk.old check_area.old)).answer }
     ensures device { device.new ≡ (serve_bytes device.old port area.old (disk_of disk.old check_area.old)).record_area }
     ensures area { area.new ≡ (serve_bytes device.old port area.old (disk_of disk.old check_area.old)).private_area }
     ensures disk { disk.new ≡ (serve_bytes device.old port area.old (disk_of disk.old check_area.old)).disk.sectors }
     ensures check_area { check_area.new ≡ (serve_bytes device.old port area.old (disk_of disk.old check_area.old)).disk.check_area }
 {
-    let refusal = serve_refusal(device, port, area.len(), disk.len(), check_area.len());
-    if refusal != answer::DONE {
-        return refusal;
-    }
+    serve_checks(device, port, area.len(), disk.len(), check_area.len())?;
     let visible = visible_sectors(device);
     serve_request::serve(
         device,
@@ -49,21 +50,23 @@ pub fn sct_serve(
         &mut check_area[..CHECK * visible],
         port as usize,
     );
-    answer::DONE
+    Ok(())
 }
 
 // "Give (port): writes all 528 reply bytes to the mailbox. Answered to empty; the slot's bytes stay.": 1,040 since W-202.
-pub fn sct_give(device: &mut [u8], port: u32, mailbox: &mut [u8], area: &[u8]) -> u32
-    ensures value { result ≡ (give_bytes device.old port mailbox.old area.now).answer }
+pub fn sct_give(
+    device: &mut [u8],
+    port: u32,
+    mailbox: &mut [u8],
+    area: &[u8],
+) -> Result<(), Refusal>
+    ensures value { answer_of result ≡ (give_bytes device.old port mailbox.old area.now).answer }
     ensures device { device.new ≡ (give_bytes device.old port mailbox.old area.now).record_area }
     ensures mailbox { mailbox.new ≡ (give_bytes device.old port mailbox.old area.now).mailbox }
 {
-    let refusal = mailbox_refusal(device, port, mailbox.len(), area.len(), Stage::Answered);
-    if refusal != answer::DONE {
-        return refusal;
-    }
+    mailbox_checks(device, port, mailbox.len(), area.len(), Stage::Answered)?;
     let p = port as usize;
     runs::copy_part(mailbox, 0, area, MAILBOX * p, MAILBOX);
     record_write::put_stage(device, p, Stage::Empty);
-    answer::DONE
+    Ok(())
 }

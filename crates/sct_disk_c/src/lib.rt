@@ -1,4 +1,5 @@
-// The twelve entries as the firmware's C code calls them: each calls the function of its name in sct_disk and states its clauses again.
+// The twelve entries as the firmware's C code calls them: each calls the function of its name in sct_disk, gives its
+// answer by number, and states its clauses again.
 // A slice crosses as a pointer and a length.
 #![tactic(auto)]
 
@@ -7,13 +8,16 @@ ghost use Rattle.sct_disk.specs.Result.{result_of};
 ghost use Rattle.std.specs.Prelude.{◌≡◌};
 ghost use Rattle.store.specs.Entries.{convert_bytes, give_bytes, lock_bytes, power_on_bytes, repair_bytes, sample_bytes, save_bytes, serve_bytes, set_visible_bytes, take_bytes, unlock_bytes, work_bytes};
 
+use layout::answer::answer_of;
+use sct_disk::result_of;
+
 #[unsafe(no_mangle)]
 pub extern "C" fn sct_take(device: &mut [u8], port: u32, mailbox: &[u8], area: &mut [u8]) -> u32
     ensures value { result ≡ (take_bytes device.old port mailbox.now area.old).answer }
     ensures device { device.new ≡ (take_bytes device.old port mailbox.now area.old).record_area }
     ensures area { area.new ≡ (take_bytes device.old port mailbox.now area.old).private_area }
 {
-    sct_disk::sct_take(device, port, mailbox, area)
+    answer_of(sct_disk::sct_take(device, port, mailbox, area))
 }
 
 #[unsafe(no_mangle)]
@@ -30,7 +34,7 @@ pub extern "C" fn sct_serve(
     ensures disk { disk.new ≡ (serve_bytes device.old port area.old (disk_of disk.old check_area.old)).disk.sectors }
     ensures check_area { check_area.new ≡ (serve_bytes device.old port area.old (disk_of disk.old check_area.old)).disk.check_area }
 {
-    sct_disk::sct_serve(device, port, area, disk, check_area)
+    answer_of(sct_disk::sct_serve(device, port, area, disk, check_area))
 }
 
 #[unsafe(no_mangle)]
@@ -39,7 +43,7 @@ pub extern "C" fn sct_give(device: &mut [u8], port: u32, mailbox: &mut [u8], are
     ensures device { device.new ≡ (give_bytes device.old port mailbox.old area.now).record_area }
     ensures mailbox { mailbox.new ≡ (give_bytes device.old port mailbox.old area.now).mailbox }
 {
-    sct_disk::sct_give(device, port, mailbox, area)
+    answer_of(sct_disk::sct_give(device, port, mailbox, area))
 }
 
 #[unsafe(no_mangle)]
@@ -55,7 +59,7 @@ pub extern "C" fn sct_work(
     ensures disk { disk.new ≡ (work_bytes device.old area.now (disk_of disk.old check_area.old) n).disk.sectors }
     ensures check_area { check_area.new ≡ (work_bytes device.old area.now (disk_of disk.old check_area.old) n).disk.check_area }
 {
-    sct_disk::sct_work(device, area, disk, check_area, n)
+    result_of(sct_disk::sct_work(device, area, disk, check_area, n))
 }
 
 #[unsafe(no_mangle)]
@@ -63,7 +67,7 @@ pub extern "C" fn sct_lock(device: &mut [u8]) -> u32
     ensures value { result ≡ (lock_bytes device.old).answer }
     ensures device { device.new ≡ (lock_bytes device.old).record_area }
 {
-    sct_disk::sct_lock(device)
+    answer_of(sct_disk::sct_lock(device))
 }
 
 #[unsafe(no_mangle)]
@@ -71,7 +75,7 @@ pub extern "C" fn sct_unlock(device: &mut [u8]) -> u32
     ensures value { result ≡ (unlock_bytes device.old).answer }
     ensures device { device.new ≡ (unlock_bytes device.old).record_area }
 {
-    sct_disk::sct_unlock(device)
+    answer_of(sct_disk::sct_unlock(device))
 }
 
 #[unsafe(no_mangle)]
@@ -79,7 +83,7 @@ pub extern "C" fn sct_set_visible(device: &mut [u8], v: u64) -> u32
     ensures value { result ≡ (set_visible_bytes device.old v).answer }
     ensures device { device.new ≡ (set_visible_bytes device.old v).record_area }
 {
-    sct_disk::sct_set_visible(device, v)
+    answer_of(sct_disk::sct_set_visible(device, v))
 }
 
 #[unsafe(no_mangle)]
@@ -87,7 +91,7 @@ pub extern "C" fn sct_sample(device: &mut [u8], reading: u8) -> u32
     ensures value { result ≡ (sample_bytes device.old reading).answer }
     ensures device { device.new ≡ (sample_bytes device.old reading).record_area }
 {
-    sct_disk::sct_sample(device, reading)
+    answer_of(sct_disk::sct_sample(device, reading))
 }
 
 #[unsafe(no_mangle)]
@@ -96,7 +100,7 @@ pub extern "C" fn sct_repair(device: &mut [u8], disk: &mut [u8], check_area: &[u
     ensures device { device.new ≡ (repair_bytes device.old (disk_of disk.old check_area.now) lba).record_area }
     ensures disk { disk.new ≡ (repair_bytes device.old (disk_of disk.old check_area.now) lba).sectors }
 {
-    sct_disk::sct_repair(device, disk, check_area, lba)
+    result_of(sct_disk::sct_repair(device, disk, check_area, lba).map(|report| report as u32))
 }
 
 #[unsafe(no_mangle)]
@@ -104,7 +108,7 @@ pub extern "C" fn sct_save(device: &[u8], image: &mut [u8], used: u64) -> u32
     ensures value { result ≡ (save_bytes device.now image.old used).answer }
     ensures image { image.new ≡ (save_bytes device.now image.old used).image }
 {
-    sct_disk::sct_save(device, image, used)
+    answer_of(sct_disk::sct_save(device, image, used))
 }
 
 #[unsafe(no_mangle)]
@@ -120,7 +124,7 @@ pub extern "C" fn sct_power_on(
     ensures device { device.new ≡ (power_on_bytes device.old area.old (disk_of disk.now check_area.now) image.now used).record_area }
     ensures area { area.new ≡ (power_on_bytes device.old area.old (disk_of disk.now check_area.now) image.now used).private_area }
 {
-    sct_disk::sct_power_on(device, area, disk, check_area, image, used)
+    answer_of(sct_disk::sct_power_on(device, area, disk, check_area, image, used))
 }
 
 #[unsafe(no_mangle)]
@@ -128,5 +132,5 @@ pub extern "C" fn sct_convert(image: &mut [u8], used: u64, form: u32) -> u32
     ensures value { result ≡ (convert_bytes image.old used form).answer }
     ensures image { image.new ≡ (convert_bytes image.old used form).image }
 {
-    sct_disk::sct_convert(image, used, form)
+    answer_of(sct_disk::sct_convert(image, used, form))
 }

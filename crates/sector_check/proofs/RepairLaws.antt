@@ -9,8 +9,18 @@ use lib.Dec.{eqb}
 use borrow.Author.Tests.{eqb-true, eq-eqb, ne_eqb}
 use Rattle.std.specs.Prelude.{if◌then◌else◌}
 use Rattle.sector_check.specs.Check.{check_of, flip}
-use Rattle.sector_check.specs.Repair.{difference, report_of, repaired_sector}
+use denote.Enum.Declared.{tag_of}
+use Rattle.sector_check.specs.contracts.repairing.Report.{the_type}
+use Rattle.sector_check.specs.declared.repairing.Report.{Report}
+use Rattle.sector_check.specs.declared.repairing.Report.TheVariants.{Equal, Flipped, Uncorrectable}
+use Rattle.sector_check.specs.Repair.{difference, report_number, report_of, repaired_sector}
 use Rattle.sector_check.proofs.XorLaws.{xor-back, xor-zero-eq}
+
+-- the number that `as` gives
+pub numbered : (r : Report) → tag_of the_type r ≡ report_number r
+numbered Equal = refl
+numbered Flipped = refl
+numbered Uncorrectable = refl
 
 -- a report, and the sector that is left
 abbrev pub Outcome : ℕ → List ℕ → ℕ → List ℕ → Type 0

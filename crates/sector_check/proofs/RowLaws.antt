@@ -1,10 +1,10 @@
 -- The check of a sector from its rows of eight words, as the code finds it.
 use mathlib.Core.Path.{◌≡◌, refl, ap, ◌∙◌, sym, ap₂}
 use Prim.Native.Nat.{ℕ, ◌+◌, ◌*◌, zero, suc, ◌^◌, ◌<◌}
-use native.Mathlib.Nat.{add-zero, zero-mul, one-mul, mul-zero, mul_assoc, mul_comm}
+use native.Mathlib.Nat.{mul-zero, mul_assoc, mul_comm}
 use native.Mathlib.Omega.{arith}
 use mathlib.Core.List.{List}
-use lib.Bits.{bit_xor, xor_zero_r}
+use lib.Bits.{bit_xor}
 use lib.Dec.{eqb}
 use borrow.Author.Tests.{eqb-true}
 use Rattle.wire.specs.Numbers.{get}
@@ -20,51 +20,6 @@ use Rattle.sector_check.proofs.XorLaws.{xor_assoc, xor_to-through, xor_to-same, 
 use Rattle.sector_check.proofs.DigitLaws.{digit_lt, digit-xor, digit-zero, xor-times, scale-xor, parity-lt, parity-zero, parity-xor, parity-times, parity-digits}
 use Rattle.sector_check.proofs.GridLaws.{grid}
 use Rattle.sector_check.proofs.WordLaws.{bit_word}
-
--- ---- one row
-
--- eight numbers, and those whose place has a binary digit
-module _ (f : ℕ → ℕ) where
-  all-eight : xor_to 8 f ≡ bit_xor (bit_xor (bit_xor (bit_xor (bit_xor (bit_xor (bit_xor (f 0) (f 1)) (f 2)) (f 3)) (f 4)) (f 5)) (f 6)) (f 7)
-  unfolding xor_to
-  all-eight = refl
-
-  eight-ones : xor_to 8 (λ i. digit i 0 * f i) ≡ bit_xor (bit_xor (bit_xor (f 1) (f 3)) (f 5)) (f 7)
-  unfolding xor_to digit
-  eight-ones = simp (zero-mul, one-mul, xor_zero_r)
-
-  eight-twos : xor_to 8 (λ i. digit i 1 * f i) ≡ bit_xor (bit_xor (bit_xor (f 2) (f 3)) (f 6)) (f 7)
-  unfolding xor_to digit
-  eight-twos =
-      simp (zero-mul, one-mul)
-      (ap (λ (x : ℕ). bit_xor (bit_xor x (f 6)) (f 7)) (xor_zero_r (bit_xor (bit_xor (f 2) (f 3)) 0) ∙ xor_zero_r (bit_xor (f 2) (f 3))))
-
-  eight-fours : xor_to 8 (λ i. digit i 2 * f i) ≡ bit_xor (bit_xor (bit_xor (f 4) (f 5)) (f 6)) (f 7)
-  unfolding xor_to digit
-  eight-fours = simp (zero-mul, one-mul)
-
-module _ (s : List ℕ) (at : ℕ) where
-  abbrev w : ℕ → ℕ
-  w i = get 8 s (at + 8 * i)
-
-  pub row-all : row_of s at
-      ≡ bit_xor (bit_xor (bit_xor (bit_xor (bit_xor (bit_xor (bit_xor (get 8 s at) (w 1)) (w 2)) (w 3)) (w 4)) (w 5)) (w 6)) (w 7)
-  unfolding row_of
-  row-all =
-      all-eight w
-      ∙ ap (λ (x : ℕ). bit_xor (bit_xor (bit_xor (bit_xor (bit_xor (bit_xor (bit_xor (get 8 s x) (w 1)) (w 2)) (w 3)) (w 4)) (w 5)) (w 6)) (w 7)) (add-zero at)
-
-  pub row-ones : picked s at 0 ≡ bit_xor (bit_xor (bit_xor (w 1) (w 3)) (w 5)) (w 7)
-  unfolding picked
-  row-ones = eight-ones w
-
-  pub row-twos : picked s at 1 ≡ bit_xor (bit_xor (bit_xor (w 2) (w 3)) (w 6)) (w 7)
-  unfolding picked
-  row-twos = eight-twos w
-
-  pub row-fours : picked s at 2 ≡ bit_xor (bit_xor (bit_xor (w 4) (w 5)) (w 6)) (w 7)
-  unfolding picked
-  row-fours = eight-fours w
 
 -- ---- 64 words, whose digits are the sector's bits
 

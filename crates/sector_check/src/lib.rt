@@ -6,5 +6,5 @@ mod row;
 mod sector;
 mod word;
 
-pub use repairing::repair;
+pub use repairing::{Report, repair};
 pub use sector::check_of;

@@ -2,12 +2,17 @@
 ghost use Rattle.std.specs.Prelude.{◌+◌, ◌≤◌, length};
 ghost use Rattle.sector_check.specs.Row.{IsRow, AreRows};
 
-use crate::word::weighed;
+use crate::word::{taken, weighed};
 use layout::SECTOR;
-use wire::u64_at;
+use wire::Number;
 
-// The bytes of a row, eight words of eight; its bits; the number of rows in a sector, also as a u64.
-const ROW: usize = 64;
+// The bytes of a word and the words of a row.
+const WORD: usize = 8;
+
+const WORDS: usize = 8;
+
+// The bytes of a row; its bits; the number of rows in a sector, also as a u64.
+const ROW: usize = WORD * WORDS;
 
 const ROW_BITS: u64 = 8 * ROW as u64;
 
@@ -39,20 +44,20 @@ fn row_of(s: &[u8], at: usize) -> Row
     requires { at + 64 ≤ length s.now }
     ensures { IsRow s.now at result.all result.ones result.twos result.fours }
 {
-    let w0 = u64_at(s, at);
-    let w1 = u64_at(s, at + 8);
-    let w2 = u64_at(s, at + 16);
-    let w3 = u64_at(s, at + 24);
-    let w4 = u64_at(s, at + 32);
-    let w5 = u64_at(s, at + 40);
-    let w6 = u64_at(s, at + 48);
-    let w7 = u64_at(s, at + 56);
-    Row {
-        all: w0 ^ w1 ^ w2 ^ w3 ^ w4 ^ w5 ^ w6 ^ w7,
-        ones: w1 ^ w3 ^ w5 ^ w7,
-        twos: w2 ^ w3 ^ w6 ^ w7,
-        fours: w4 ^ w5 ^ w6 ^ w7,
+    let mut row = Row {
+        all: 0,
+        ones: 0,
+        twos: 0,
+        fours: 0,
+    };
+    for i in 0..WORDS {
+        let word = u64::get(s, at + WORD * i);
+        row.all ^= word;
+        row.ones ^= taken(i % 2, word);
+        row.twos ^= taken(i / 2 % 2, word);
+        row.fours ^= taken(i / 4 % 2, word);
     }
+    row
 }
 
 // The rows of the sector at `at`.
@@ -65,15 +70,13 @@ pub fn rows_of(s: &[u8], at: usize) -> Rows
     let mut twos: u64 = 0;
     let mut fours: u64 = 0;
     let mut odd: u64 = 0;
-    let mut k: usize = 0;
-    while k < ROWS {
+    for k in 0..ROWS {
         let row = row_of(s, at + ROW * k);
         all ^= row.all;
         ones ^= row.ones;
         twos ^= row.twos;
         fours ^= row.fours;
         odd ^= weighed(row.all, ROW_BITS * (ROWS_U64 + k as u64));
-        k += 1;
     }
     Rows {
         all,

@@ -15,7 +15,7 @@ fn column_of(fours: u64, twos: u64, ones: u64) -> u64
     weighed(fours, 256) ^ (weighed(twos, 128) ^ weighed(ones, 64))
 }
 
-// The check of the sector at `at`.
+// The check of the sector at `at`. It takes a run and a place, as its callers have them: for a `&[u8; 512]` each would need a branch that is never taken.
 pub fn check_of(s: &[u8], at: usize) -> u16
     requires { at + 512 ≤ length s.now }
     ensures { result ≡ check_of (part s.now at 512) }

@@ -1,19 +1,20 @@
 // Words of 64 bits: their parity, and the places of their ones.
-ghost use Rattle.std.specs.Prelude.{◌≡◌, ◌*◌, ◌<◌, eqb};
+ghost use Rattle.std.specs.Prelude.{◌≡◌, ◌*◌, ◌<◌};
 ghost use Rattle.sector_check.specs.Word.{parity, places, folded};
 
-// Whether the count of v's ones is odd.
-fn odd(v: u64) -> bool
-    ensures { result ≡ eqb (parity v) 1 }
+// n where the digit is 1, otherwise 0.
+pub fn taken(digit: usize, n: u64) -> u64
+    requires { digit < 2 }
+    ensures { result ≡ digit * n }
 {
-    u64::count_ones(v) % 2 == 1
+    if digit == 1 { n } else { 0 }
 }
 
 // n where v's parity is 1, otherwise 0.
 pub fn weighed(v: u64, n: u64) -> u64
     ensures { result ≡ parity v * n }
 {
-    if odd(v) { n } else { 0 }
+    taken(u64::count_ones(v) as usize % 2, n)
 }
 
 // The part of v below a power of two and the part above it, in one.

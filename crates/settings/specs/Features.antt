@@ -1,20 +1,10 @@
--- Timers and features by cases, and a struct that means the device of another struct with a feature set.
+-- Which feature is the log interval, and a struct that means the device of another struct with a feature set.
 use Rattle.std.specs.Prelude.{◌≡◌, Bool, true, false, List, ℕ, length}
-use Rattle.model.specs.Registers.{Direction, read, write}
 use Rattle.model.specs.Key.{FeatureName, write_cache, reordering, log_interval}
 use Rattle.model.specs.Update.{with_settings}
 use Rattle.model.specs.Decide.{with_feature, after_feature}
 use Rattle.record.specs.DeviceMeaning.{history_after, as_device, stages_of}
 use Rattle.record.specs.declared.device as code
-
-abbrev pub is_read : Direction → Bool
-is_read read = true
-is_read write = false
-
-abbrev pub is_cache : FeatureName → Bool
-is_cache write_cache = true
-is_cache reordering = false
-is_cache log_interval = false
 
 abbrev pub is_interval : FeatureName → Bool
 is_interval write_cache = false

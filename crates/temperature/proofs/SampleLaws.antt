@@ -1,6 +1,6 @@
 -- A sample on the record's bytes: its history holds the sample if it is logged, and the values of the struct are written as well.
-use mathlib.Core.Path.{◌≡◌, refl, sym, ap, ◌∙◌}
-use mathlib.Core.Bool.{Bool, true, false, not}
+use mathlib.Core.Path.{◌≡◌, refl, ap, ◌∙◌}
+use mathlib.Core.Bool.{Bool, true, false}
 use mathlib.Core.List.{List}
 use Prim.Native.Nat.{ℕ, suc, ◌+◌, ◌<◌}
 use native.Mathlib.Omega.{arith}
@@ -55,22 +55,6 @@ next-within index h = go (eqb (suc index) history_size) refl
 module _ (t : code.Thermal.Thermal) (interval reading : ℕ) (r : List ℕ) where
   abbrev later : Bool
   later = ltb (suc t.minutes) interval
-
-  -- after `if !is_logged(..)` was taken, and after it was not taken
-  pub log-later : (l : Bool) → l ≡ not later → not l ≡ true → r ≡ logged_record t interval reading r
-  log-later l e n = rw (twice later (sym (ap not e) ∙ n))
-    where
-      twice : (b : Bool) → not (not b) ≡ true → b ≡ true
-      twice true h = refl
-      twice false h = h
-
-  pub log-now : (i : ℕ) (b : Bool) → b ≡ not later → not b ≡ false → i ≡ next_index t.index
-      → set r (head_size + table_head_size + i) reading ≡ logged_record t interval reading r
-  log-now i b e n x = rw (twice later (sym (ap not e) ∙ n), x)
-    where
-      twice : (c : Bool) → not (not c) ≡ false → c ≡ false
-      twice true h = h
-      twice false h = refl
 
   pub log-framed : Framed r → Framed (logged_record t interval reading r)
   log-framed f = go later

@@ -1,14 +1,10 @@
 -- A struct, and a record's bytes, after a sample.
-use Rattle.std.specs.Prelude.{◌≡◌, List, ℕ, suc, ◌+◌, ◌-◌, set, ltb, if◌then◌else◌}
+use Rattle.std.specs.Prelude.{◌≡◌, List, ℕ, suc, ◌+◌, set, ltb, if◌then◌else◌}
 use Rattle.model.specs.Temperature.{table_head_size, next_index, sampled}
 use Rattle.model.specs.Owner.{sample}
 use Rattle.store.specs.Areas.{head_size}
 use Rattle.record.specs.DeviceMeaning.{as_thermal, as_device, stages_of}
 use Rattle.record.specs.declared.device as code
-
--- a two's complement byte as its position in the order of temperatures, from 0
-abbrev pub shifted : ℕ → ℕ
-shifted b = if ltb b 128 then b + 128 else b - 128
 
 -- the history after a sample: the sample is at the next place, if it is logged
 abbrev pub logged_history : code.Thermal.Thermal → ℕ → ℕ → List ℕ → List ℕ

@@ -15,11 +15,8 @@ fn sampled_device(d: Device, reading: u8) -> Device
     requires { (d.thermal.minutes < d.settings.log_interval.state) × (d.thermal.index < history_size) }
     ensures { SampledDevice reading d result }
 {
-    let t = d.thermal;
-    let u = sampled_thermal(t, d.settings.log_interval.state, reading);
-    let mut e = d;
-    e.thermal = u;
-    e
+    let thermal = sampled_thermal(d.thermal, d.settings.log_interval.state, reading);
+    Device { thermal, ..d }
 }
 
 // "When the minutes reach the interval, the sample (missing too) is logged"
@@ -39,8 +36,7 @@ pub fn sample(device: &mut [u8], reading: u8)
     ensures { device.new ≡ (owner_done (sample reading) device.old).record_area }
 {
     let d = record::decode(device);
-    let t = d.thermal;
-    log_sample(device, t, d.settings.log_interval.state, reading);
+    log_sample(device, d.thermal, d.settings.log_interval.state, reading);
     let e = sampled_device(d, reading);
     record_write::write(device, e);
 }

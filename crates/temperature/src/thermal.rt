@@ -2,20 +2,10 @@
 ghost use Rattle.std.specs.Prelude.{◌≡◌, not, ◌<◌, suc, ltb};
 ghost use Rattle.model.specs.Sizes.{history_size};
 ghost use Rattle.model.specs.Temperature.{new_maximum, next_index};
-ghost use Rattle.temperature.specs.Sampled.{shifted, Sampled};
+ghost use Rattle.temperature.specs.Sampled.{Sampled};
 
 use layout::{LAST_INDEX, MISSING};
 use record::Thermal;
-
-// The sign bit of a two's complement byte.
-const SIGN: u8 = 0x80;
-
-// A two's complement byte, shifted so that the order of the bytes is the order of the temperatures.
-fn shifted(b: u8) -> u8
-    ensures { result ≡ shifted b }
-{
-    if b < SIGN { b + SIGN } else { b - SIGN }
-}
 
 // "A missing sample .. moves no maximum. A missing maximum takes the first real sample."
 pub fn new_maximum(sample: u8, old: u8) -> u8
@@ -27,7 +17,8 @@ pub fn new_maximum(sample: u8, old: u8) -> u8
     if old == MISSING {
         return sample;
     }
-    if shifted(sample) <= shifted(old) {
+    // "Bytes are two's complement"
+    if sample.cast_signed() <= old.cast_signed() {
         return old;
     }
     sample
@@ -54,23 +45,21 @@ pub fn sampled_thermal(t: Thermal, interval: u16, sample: u8) -> Thermal
     requires { (t.minutes < interval) × (t.index < history_size) }
     ensures { Sampled t interval sample result }
 {
-    let cycle_maximum = new_maximum(sample, t.cycle_maximum);
-    let life_maximum = new_maximum(sample, t.life_maximum);
+    let u = Thermal {
+        current: sample,
+        cycle_maximum: new_maximum(sample, t.cycle_maximum),
+        life_maximum: new_maximum(sample, t.life_maximum),
+        ..t
+    };
     if is_logged(t.minutes, interval) {
-        let index = next_index(t.index);
         return Thermal {
-            current: sample,
-            cycle_maximum,
-            life_maximum,
-            index,
+            index: next_index(t.index),
             minutes: 0,
+            ..u
         };
     }
     Thermal {
-        current: sample,
-        cycle_maximum,
-        life_maximum,
-        index: t.index,
         minutes: t.minutes + 1,
+        ..u
     }
 }

@@ -1,8 +1,6 @@
 // A command of a bus trace: its record of 7 bytes, and what kind of command it is to the timer.
-ghost use Rattle.std.specs.Prelude.{◌≡◌, ◌+◌, ◌≤◌, length};
-ghost use Rattle.timing.specs.Command.{record_size, command_at, is_access, is_flush, setting_of, kind_of};
-
-use wire::u32_at;
+ghost use Rattle.std.specs.Prelude.{◌≡◌};
+ghost use Rattle.timing.specs.Command.{command_at, setting_of, kind_of};
 
 // Command codes: READ DMA, READ DMA EXT, WRITE DMA, WRITE DMA EXT; FLUSH CACHE, FLUSH CACHE EXT; SET FEATURES.
 const READ_DMA: u8 = 0xC8;
@@ -24,14 +22,8 @@ const TIME_LIMIT: u8 = 0x20;
 
 const ERROR_HANDLING: u8 = 0x21;
 
-// The bytes of a record, and the places in it.
+// The bytes of a record.
 pub const RECORD: usize = 7;
-
-const FEATURE_AT: usize = 1;
-
-const COUNT_AT: usize = 2;
-
-const DURATION_AT: usize = 3;
 
 // "command, feature, count (a byte each) and duration in ms"
 #[derive(Clone, Copy)]
@@ -52,57 +44,43 @@ pub enum Kind {
     Other,
 }
 
-fn is_access(code: u8) -> bool
-    ensures { result ≡ is_access code }
-{
-    (code == READ_DMA) | (code == READ_DMA_EXT) | (code == WRITE_DMA) | (code == WRITE_DMA_EXT)
-}
-
-fn is_flush(code: u8) -> bool
-    ensures { result ≡ is_flush code }
-{
-    (code == FLUSH_CACHE) | (code == FLUSH_CACHE_EXT)
+impl Command {
+    #[tactic(auto, unfolding(crate::specs::Command::kind_of))]
+    pub fn kind(self) -> Kind
+        ensures { result ≡ kind_of self }
+    {
+        match self.code {
+            READ_DMA | READ_DMA_EXT | WRITE_DMA | WRITE_DMA_EXT => Kind::Access,
+            FLUSH_CACHE | FLUSH_CACHE_EXT => Kind::Flush,
+            SET_FEATURES => setting_of(self.feature),
+            _ => Kind::Other,
+        }
+    }
 }
 
 // The setting that a feature of SET FEATURES is.
 fn setting_of(feature: u8) -> Kind
     ensures { result ≡ setting_of feature }
 {
-    if feature == TIME_LIMIT {
-        return Kind::SetLimit;
-    }
-    if feature == ERROR_HANDLING {
-        return Kind::SetMode;
-    }
-    Kind::Other
-}
-
-impl Command {
-    pub fn kind(self) -> Kind
-        ensures { result ≡ kind_of self }
-    {
-        if is_access(self.code) {
-            return Kind::Access;
-        }
-        if is_flush(self.code) {
-            return Kind::Flush;
-        }
-        if self.code == SET_FEATURES {
-            return setting_of(self.feature);
-        }
-        Kind::Other
+    match feature {
+        TIME_LIMIT => Kind::SetLimit,
+        ERROR_HANDLING => Kind::SetMode,
+        _ => Kind::Other,
     }
 }
 
-// The command in the seven bytes from `at`.
-pub fn command_at(input: &[u8], at: usize) -> Command
-    requires { at + record_size ≤ length input.now }
-    ensures { result ≡ command_at input.now at }
-{
-    Command {
-        code: input[at],
-        feature: input[at + FEATURE_AT],
-        count: input[at + COUNT_AT],
-        duration: u32_at(input, at + DURATION_AT),
+// The command in the seven bytes of a record.
+impl From<&[u8; RECORD]> for Command {
+    ghost from_gives = { λ bytes c. c ≡ command_at bytes.now 0 };
+
+    #[tactic(auto, unfolding(crate::specs::Command::command_at, wire::specs::Numbers::get))]
+    fn from(bytes: &[u8; RECORD]) -> Command {
+        let [code, feature, count, d0, d1, d2, d3] = *bytes;
+        Command {
+            code,
+            feature,
+            count,
+            duration: u32::from_le_bytes([d0, d1, d2, d3]),
+        }
     }
 }

@@ -49,10 +49,9 @@ fn result(outcome: Outcome, timer: Timer, mode: Mode) -> Traced
 fn mode_of(count: u8) -> Mode
     ensures { result ≡ mode_of count }
 {
-    if count == 0 {
-        Mode::Abort
-    } else {
-        Mode::Continue
+    match count {
+        0 => Mode::Abort,
+        _ => Mode::Continue,
     }
 }
 
@@ -60,10 +59,11 @@ fn mode_of(count: u8) -> Mode
 fn set_mode(count: u8, timer: Timer, mode: Mode) -> Traced
     ensures { result ≡ mode_set count timer mode }
 {
-    if timer.is_disabled() | (CONTINUE < count) {
-        return result(Outcome::Aborted, timer, mode);
+    if timer.is_disabled() || count > CONTINUE {
+        result(Outcome::Aborted, timer, mode)
+    } else {
+        result(Outcome::Done, timer, mode_of(count))
     }
-    result(Outcome::Done, timer, mode_of(count))
 }
 
 fn as_chosen(mode: Mode) -> Outcome
@@ -102,11 +102,8 @@ fn at_end(kind: Kind, timer: Timer, duration: u32) -> Timer
     ensures { result ≡ at_end kind timer duration }
 {
     match kind {
-        Kind::SetLimit => timer.pass(duration),
-        Kind::SetMode => timer.pass(duration),
         Kind::Access => timer.command(duration),
-        Kind::Flush => timer.pass(duration),
-        Kind::Other => timer.pass(duration),
+        Kind::SetLimit | Kind::SetMode | Kind::Flush | Kind::Other => timer.pass(duration),
     }
 }
 
@@ -135,17 +132,12 @@ impl Drive {
     }
 
     // One record of a trace.
+    #[tactic(auto, unfolding(crate::specs::Drive::traced))]
     pub fn trace(self, command: Command) -> Traced
         ensures { result ≡ traced self command }
     {
         let kind = command.kind();
-        let timer = self.timer;
-        let mode = self.mode;
-        ended(
-            kind,
-            command.count,
-            at_end(kind, timer, command.duration),
-            mode,
-        )
+        let timer = at_end(kind, self.timer, command.duration);
+        ended(kind, command.count, timer, self.mode)
     }
 }

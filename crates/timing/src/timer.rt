@@ -19,11 +19,11 @@ impl Timer {
     pub fn set(self, count: u8) -> Timer
         ensures { result ≡ set_to self count }
     {
-        if count == 0 {
-            return Timer::Disabled;
-        }
-        Timer::Armed {
-            limit: UNIT * (count as u32),
+        match count {
+            0 => Timer::Disabled,
+            _ => Timer::Armed {
+                limit: UNIT * u32::from(count),
+            },
         }
     }
 
@@ -39,22 +39,25 @@ impl Timer {
         ensures { result ≡ rearmed self }
     {
         match self {
-            Timer::Disabled => self,
-            Timer::Armed { limit: _ } => self,
-            Timer::Running { limit, run: _ } => Timer::Armed { limit },
-            Timer::Expired { limit } => Timer::Armed { limit },
+            Timer::Running { limit, .. } | Timer::Expired { limit } => Timer::Armed { limit },
+            _ => self,
         }
     }
 
-    // Time passes: it runs in a running timer only.
+    // Time passes: it runs in a running timer only. Where the sum of 32 bits saturates, it is no less than any limit.
     pub fn pass(self, duration: u32) -> Timer
         ensures { result ≡ passed self duration }
     {
         match self {
-            Timer::Disabled => Timer::Disabled,
-            Timer::Armed { limit } => Timer::Armed { limit },
-            Timer::Running { limit, run } => run_on(limit, run, duration),
-            Timer::Expired { limit } => Timer::Expired { limit },
+            Timer::Running { limit, run } => {
+                let run = run.saturating_add(duration);
+                if run < limit {
+                    Timer::Running { limit, run }
+                } else {
+                    Timer::Expired { limit }
+                }
+            }
+            _ => self,
         }
     }
 
@@ -63,48 +66,20 @@ impl Timer {
         ensures { result ≡ started self }
     {
         match self {
-            Timer::Disabled => self,
             Timer::Armed { limit } => Timer::Running { limit, run: 0 },
-            Timer::Running { limit: _, run: _ } => self,
-            Timer::Expired { limit: _ } => self,
+            _ => self,
         }
     }
 
     pub fn is_disabled(self) -> bool
         ensures { result ≡ is_disabled self }
     {
-        match self {
-            Timer::Disabled => true,
-            Timer::Armed { limit: _ } => false,
-            Timer::Running { limit: _, run: _ } => false,
-            Timer::Expired { limit: _ } => false,
-        }
+        matches!(self, Timer::Disabled)
     }
 
     pub fn is_expired(self) -> bool
         ensures { result ≡ is_expired self }
     {
-        match self {
-            Timer::Disabled => false,
-            Timer::Armed { limit: _ } => false,
-            Timer::Running { limit: _, run: _ } => false,
-            Timer::Expired { limit: _ } => true,
-        }
-    }
-}
-
-// A running timer after a duration. The sum is not taken where it could wrap.
-fn run_on(limit: u32, run: u32, duration: u32) -> Timer
-    ensures { result ≡ passed (Timer.Running limit run) duration }
-{
-    if limit <= run {
-        return Timer::Expired { limit };
-    }
-    if limit - run <= duration {
-        return Timer::Expired { limit };
-    }
-    Timer::Running {
-        limit,
-        run: run + duration,
+        matches!(self, Timer::Expired { .. })
     }
 }

@@ -4,11 +4,10 @@ use Prim.Native.Nat.{ℕ, zero, suc, ◌+◌, ◌*◌, ◌/◌, ◌%◌, ◌≤�
 use native.Mathlib.Nat.{add-zero, add-suc}
 use native.Mathlib.Omega.{arith}
 use mathlib.Core.List.{List, [], ◌++◌, append_assoc, append-nil}
-use lib.ListN.{length, get_or, take, length-append}
+use lib.ListN.{length, take, length-append}
 use lib.Seq.{drop-append-add}
 use borrow.Author.Tests.{ne_eqb}
-use Rattle.wire.specs.Parts.{part}
-use Rattle.wire.proofs.PartsLaws.{get_or_part, get-part, part-front}
+use Rattle.wire.proofs.PartsLaws.{part-front}
 use Rattle.console.specs.Text.{ascii}
 use Rattle.console.specs.Records.{stray_bytes}
 use Rattle.timing.specs.declared.drive.Drive.{Drive}
@@ -16,17 +15,7 @@ use Rattle.timing.specs.Command.{record_size, command_at}
 use Rattle.timing.specs.Trace.{after, outcomes}
 use Rattle.timing.proofs.TraceLaws.{outcomes-parts}
 use Rattle.trace_lines.specs.Lines.{commands, all_commands, lines_of, printed}
-use Rattle.trace_lines.proofs.LinesLaws.{lines-parts}
-
--- a command is read from its seven bytes
-command-part : (s : List ℕ) (at : ℕ) → command_at (part s at 7) 0 ≡ command_at s at
-unfolding command_at
-command-part s at = λ i. record {
-  code = (get_or_part s at 7 0 (omega arith) ∙ ap (λ (k : ℕ). get_or s k 0) (add-zero at)) i;
-  feature = get_or_part s at 7 1 (omega arith) i;
-  count = get_or_part s at 7 2 (omega arith) i;
-  duration = get-part 4 s at 7 3 (omega arith) i;
-}
+use Rattle.trace_lines.proofs.LinesLaws.{command-part, lines-parts}
 
 module _ (a b : List ℕ) where
   command-front : (at : ℕ) → at + 7 ≤ length a → command_at (a ++ b) at ≡ command_at a at

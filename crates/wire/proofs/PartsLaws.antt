@@ -4,6 +4,7 @@ use Prim.Native.Nat.{ℕ, zero, suc, ◌+◌, ◌-◌, ◌*◌, ◌^◌, ◌≤�
 use native.Mathlib.Nat.{suc-add, add-suc, zero-add, add-zero, mul_comm, mul-zero}
 use native.Mathlib.Omega.{arith}
 use mathlib.Core.List.{List, [], ◌∷◌, ◌++◌, append_assoc, append-nil}
+use borrow.Rule.Slice.PartMut.{put_mid}
 use lib.ListN.{length, get_or, set, take, drop, length-append, length-take, length-drop, length-replicate, length-set, replicate-append-replicate}
 use lib.Seq.{take-nil, take_at, drop_at, length-take-le, take_all, drop-set-lt, take-set-le, take-set-lt, drop-set-add, take-take, drop-drop, get_or-take, get_or-drop, ext_get_or, sets, sets-eq, length-sets, take-append-le, drop-append-le, drop-append-add}
 use Rattle.wire.specs.Numbers.{le, get, put}
@@ -30,6 +31,10 @@ get_or-zeros (suc n) (suc i) = get_or-zeros n i
 
 pub get_or_part : (l : List ℕ) (b n i : ℕ) → i < n → get_or (part l b n) i 0 ≡ get_or l (b + i) 0
 get_or_part l b n i h = get_or-take n (drop b l) i 0 h ∙ get_or-drop b l i 0
+
+-- what `copy_from_slice` and `fill` leave of a part of a run
+pub copied : (l ys : List ℕ) (at k : ℕ) → length ys ≡ k → at + k ≤ length l → put_mid at k l ys ≡ sets l at ys
+copied l ys at k e h = rw (sets-eq ys l at (omega arith), append_assoc, drop-drop, e)
 
 -- the same bytes give the same part
 pub part-agree : (s t : List ℕ) (b n : ℕ) → length s ≡ length t → ((i : ℕ) → b ≤ i → i < b + n → get_or s i 0 ≡ get_or t i 0) → part s b n ≡ part t b n

@@ -1,33 +1,28 @@
-use mathlib.Core.Path.{refl, sym, ◌∙◌}
-use native.Mathlib.Omega.{arith}
-use lib.ListN.{length}
-use borrow.Author.Tests.{leb-true}
-use Rattle.wire.proofs.ChoiceLaws.{all_pass, attempt-refused, attempt-done}
-use Rattle.model.specs.Convert.{convert_checks}
+use mathlib.Core.Path.{refl, ap, ◌∙◌}
+use Prim.Native.Nat.{ℕ, ◌/◌}
+use Rattle.layout.proofs.AnswerLaws.{refused-not-done, passed_on}
+use Rattle.layout.specs.Answer.{number_of}
+use Rattle.wire.proofs.ChoiceLaws.{attempt-refused, attempt-done}
+use Rattle.model.specs.Sizes.{entry_size}
+use Rattle.model.specs.Convert.{converted}
 use Rattle.store.specs.Entries.{convert_entry, convert_bytes}
 use Rattle.convert.proofs.converting.convert.Goals as goal
 
-pub returns-then-refused-ne-DONE : goal.returns-then-refused-ne-DONE
+pub returns-in_err-form : goal.returns-in_err-form
 unfolding convert_bytes
-returns-then-refused-ne-DONE c =
+returns-in_err-form c =
     let a = c.args in
-    rw (attempt-refused (convert_entry a.image.now a.used a.form) c.refusal-refused.result c.refusal-refused.ensures c.if-refused-ne-DONE.true) record {
+    rw (passed_on c.from_residual.result c.in_err-form.field-0.0 c.from_residual.ensures.1, attempt-refused (convert_entry a.image.now a.used a.form) (number_of c.in_err-form.field-0.0) c.in_err-form.ensures.answer (refused-not-done c.in_err-form.field-0.0)) record {
       value = refl;
       image = refl;
     }
-
-pub convert_entries-requires : goal.convert_entries-requires
-convert_entries-requires c =
-    let a = c.args in
-    let pass = all_pass 9 (convert_checks a.form a.image.now a.used) (omega arith) (sym c.refusal-refused.ensures ∙ c.if-refused-ne-DONE.false) in
-    omega (arith, leb-true a.used (length a.image.now) pass.0)
 
 pub returns : goal.returns
 unfolding convert_bytes
 returns c =
     let a = c.args in
-    rw (attempt-done (convert_entry a.image.now a.used a.form) c.refusal-refused.result c.refusal-refused.ensures c.if-refused-ne-DONE.false)
+    rw (attempt-done (convert_entry a.image.now a.used a.form) 0 c.in_ok-form.ensures.answer refl)
     record {
       value = refl;
-      image = c.convert_entries.ensures;
+      image = c.convert_entries.ensures ∙ ap (λ (form : ℕ). converted form a.image.now (a.used / entry_size)) c.in_ok-form.ensures.form;
     }

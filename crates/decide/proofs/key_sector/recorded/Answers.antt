@@ -6,4 +6,4 @@ use Rattle.decide.proofs.key_sector.recorded.Goals as goal
 
 pub returns : goal.returns
 returns c =
-    words-read c.args.area.now c.args.at _ _ c.args.d c.with_key.result c.u16_at.ensures c.u16_at-2.ensures (changed_then interrupt (with_key _ _) c.args.d c.interrupt-stopped.result c.with_key.result c.interrupt-stopped.ensures c.with_key.ensures)
+    words-read c.args.area.now c.args.at _ _ c.args.d c.with_key.result c.get.ensures c.get-2.ensures (changed_then interrupt (with_key _ _) c.args.d c.interrupt-stopped.result c.with_key.result c.interrupt-stopped.ensures c.with_key.ensures)

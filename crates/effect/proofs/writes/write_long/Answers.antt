@@ -5,5 +5,5 @@ use Rattle.effect.proofs.writes.write_long.Goals as goal
 pub returns : goal.returns
 returns c =
     let a = c.args in
-    rw (c.store.ensures, c.u16_at-check.ensures)
+    rw (c.store.ensures, c.get-check.ensures)
     (λ i. with_sector a.lba (record { content = slot-data a.area.now a.p i; check = slot-check a.area.now a.p i }) (disk_of a.disk.now a.check_area.now))

@@ -1,6 +1,6 @@
 -- What holds at each turn.
 use mathlib.Core.Path.{◌≡◌}
-use Prim.Native.Nat.{◌+◌, ◌*◌, ◌-◌, ◌≤◌}
+use Prim.Native.Nat.{◌*◌}
 use lib.ListN.{length}
 use lib.Seq.{sets}
 use Rattle.wire.specs.Parts.{repeated}
@@ -9,7 +9,4 @@ use Rattle.store.specs.Store.{fill_sector_of}
 use Rattle.fill.proofs.steps.write_sectors.Given as goal
 
 abbrev pub invariant-loop-j : goal.invariant-loop-j
-invariant-loop-j l = (l.j ≤ l.k) × (length l.disk ≡ length l.initial.disk) × (l.at ≡ sector_size * l.next + sector_size * l.j) × (l.disk ≡ sets l.initial.disk (sector_size * l.next) (repeated l.j (fill_sector_of l.area)))
-
-abbrev pub decreases-loop-j : goal.decreases-loop-j
-decreases-loop-j l = l.k - l.j
+invariant-loop-j l = (length l.disk ≡ length l.initial.disk) × (l.disk ≡ sets l.initial.disk (sector_size * l.next) (repeated l.j (fill_sector_of l.area)))

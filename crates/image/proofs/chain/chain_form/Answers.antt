@@ -1,16 +1,15 @@
-use mathlib.Core.Path.{◌∙◌}
+use mathlib.Core.Path.{ap, ◌∙◌}
+use mathlib.Core.List.{List}
+use Prim.Native.Nat.{ℕ}
 use native.Mathlib.Omega.{arith}
-use Rattle.image.proofs.ChainLaws.{form-empty, form-newest}
+use Rattle.model.specs.Image.{form_of, Saved, saved_at}
+use Rattle.image.proofs.ChainLaws.{form-newest, last-saved}
 use Rattle.image.proofs.chain.chain_form.Goals as goal
 
-pub returns-then-used-eq0 : goal.returns-then-used-eq0
-returns-then-used-eq0 c = form-empty _ _ c.if-used-eq0.true
-
-pub overflow_sub-used : goal.overflow_sub-used
-overflow_sub-used c = let some = c.if-used-eq0.false in omega (arith, c.requires.1)
-
-pub form_at-requires : goal.form_at-requires
-form_at-requires c = let some = c.if-used-eq0.false in omega (arith, c.requires.0, c.requires.1)
-
-pub returns : goal.returns
-returns c = c.form_at.ensures ∙ form-newest _ _ c.requires.1 c.if-used-eq0.false
+pub returns-in-Some : goal.returns-in-Some
+returns-in-Some c =
+    let chain = c.args.chain.now in
+    c.form_of.ensures
+    ∙ ap (λ (l : List ℕ). form_of (saved_at l 0).timers) c.in-Some.ensures.cases.1.same
+    ∙ ap (λ (s : Saved). form_of s.timers) (last-saved chain _)
+    ∙ form-newest chain _ c.requires (λ e. let some = c.in-Some.ensures.cases.0 in omega (arith, some, e))

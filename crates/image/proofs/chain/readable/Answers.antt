@@ -1,19 +1,45 @@
-use mathlib.Core.Path.{sym, ◌∙◌}
+use mathlib.Core.Path.{◌≡◌, sym, ap, ◌∙◌}
+use mathlib.Core.Bool.{Bool, true}
+use mathlib.Core.List.{List}
+use Prim.Native.Nat.{ℕ, ◌-◌}
 use native.Mathlib.Omega.{arith}
-use Rattle.image.proofs.ChainLaws.{readable-uneven, readable-long, readable-empty, readable-chain}
+use lib.ListN.{length}
+use lib.Dec.{eqb}
+use borrow.Author.Tests.{eqb-true, eqb-false}
+use Rattle.std.specs.Simd.{first_chunks}
+use Rattle.model.specs.Sizes.{trailer_size, entry_size}
+use Rattle.model.specs.Image.{form_of, Saved, saved_at, chain_holds}
+use Rattle.image.proofs.ChainLaws.{readable-uneven, readable-long, readable-empty, readable-chain, last-saved}
 use Rattle.image.proofs.chain.readable.Goals as goal
 
-pub returns-then-used-ne0 : goal.returns-then-used-ne0
-returns-then-used-ne0 c = readable-uneven _ _ c.if-used-ne0.true
+pub returns-then-not-is_empty : goal.returns-then-not-is_empty
+returns-then-not-is_empty c =
+    readable-uneven _ _ (λ e. eqb-false _ _ (sym c.is_empty.ensures ∙ c.if-not-is_empty.true) (c.as_chunks.ensures.back_len ∙ e))
 
-pub returns-then-used-gt-IMAGE_LIMIT : goal.returns-then-used-gt-IMAGE_LIMIT
-returns-then-used-gt-IMAGE_LIMIT c = readable-long _ _ c.if-used-ne0.false c.if-used-gt-IMAGE_LIMIT.true
+-- no rest: the length is a multiple
+even : (t : Bool) (n : ℕ) (rest : List ℕ) → t ≡ eqb (length rest) 0 → length rest ≡ n → t ≡ true → n ≡ 0
+even t n rest e long empty = sym long ∙ eqb-true (length rest) 0 (sym e ∙ empty)
 
-pub returns-then-used-eq0 : goal.returns-then-used-eq0
-returns-then-used-eq0 c = readable-empty _ _ c.if-used-eq0.true
+pub returns-then-entries-gt-ENTRIES : goal.returns-then-entries-gt-ENTRIES
+returns-then-entries-gt-ENTRIES c =
+    let whole = even _ _ _ c.is_empty.ensures c.as_chunks.ensures.back_len c.if-not-is_empty.false in
+    readable-long _ _ whole (omega (arith, c.as_chunks.ensures.front_len))
 
-pub returns : goal.returns
-returns c =
-    let some = c.if-used-eq0.false in
-    readable-chain _ _ c.if-used-ne0.false c.if-used-gt-IMAGE_LIMIT.false (omega arith) _
-    (λ newest e. c.chain_holds.ensures newest (e.0 ∙ sym c.native_at-native.ensures, e.1 ∙ sym c.form_at-form.ensures))
+pub returns-in-None : goal.returns-in-None
+returns-in-None c =
+    let whole = even _ _ _ c.is_empty.ensures c.as_chunks.ensures.back_len c.if-not-is_empty.false in
+    readable-empty _ _ (omega (arith, whole, c.in-None.ensures.cases))
+
+pub returns-in-Some : goal.returns-in-Some
+returns-in-Some c =
+    let chain = c.args.chain.now in
+    let count = c.as_chunks.ensures.front_len in
+    let whole = even _ _ _ c.is_empty.ensures c.as_chunks.ensures.back_len c.if-not-is_empty.false in
+    let some = c.in-Some.ensures.cases.0 in
+    let saved = ap (λ (l : List ℕ). saved_at l 0) c.in-Some.ensures.cases.1.same ∙ last-saved chain _ in
+    readable-chain chain (length chain) whole (omega (arith, count)) (omega (arith, some)) c.chain_holds.result
+    (λ newest e.
+    c.chain_holds.ensures newest chain
+    (e.0 ∙ ap (λ (s : Saved). s.native) (sym saved) ∙ c.common_of.ensures.0, e.1 ∙ ap (λ (s : Saved). form_of s.timers) (sym saved) ∙ c.common_of.ensures.1)
+    (c.as_chunks.ensures.front ∙ ap (λ (n : ℕ). first_chunks entry_size n chain) (sym count))
+    ∙ ap (λ (n : ℕ). chain_holds newest chain n (length chain - trailer_size)) count)

@@ -1,19 +1,17 @@
+use mathlib.Core.Path.{ap, ◌∙◌}
+use mathlib.Core.List.{List}
+use Prim.Native.Nat.{ℕ}
 use native.Mathlib.Omega.{arith}
-use Rattle.image.proofs.ImageAnswers.{disk-empty, entry-before, disk-newest}
+use lib.Dec.{eqb}
+use lib.ListN.{length}
+use Rattle.model.specs.Image.{Saved, saved_at}
+use Rattle.image.proofs.ChainLaws.{last-saved}
+use Rattle.image.proofs.ImageAnswers.{disk_last}
 use Rattle.image.proofs.refusal.same_disk.Goals as goal
 
-pub returns-then-used-eq0 : goal.returns-then-used-eq0
-returns-then-used-eq0 c = let a = c.args in disk-empty a.native a.image.now a.used c.if-used-eq0.true
-
-pub overflow_sub-used : goal.overflow_sub-used
-overflow_sub-used c = let a = c.args in entry-before a.image.now a.used c.requires.1 c.if-used-eq0.false
-
-pub native_at-requires : goal.native_at-requires
-native_at-requires c =
+pub returns-in-Some : goal.returns-in-Some
+returns-in-Some c =
     let a = c.args in
-    omega (arith, entry-before a.image.now a.used c.requires.1 c.if-used-eq0.false, c.requires.0)
-
-pub returns : goal.returns
-returns c =
-    let a = c.args in
-    rw c.native_at.ensures (disk-newest a.native a.image.now a.used c.requires.1 c.if-used-eq0.false)
+    let some = c.in-Some.ensures.cases.0 in
+    ap (λ (n : ℕ). eqb n a.native) (c.native_of.ensures ∙ ap (λ (l : List ℕ). (saved_at l 0).native) c.in-Some.ensures.cases.1.same ∙ ap (λ (s : Saved). s.native) (last-saved a.chain.now _))
+    ∙ disk_last a.native a.chain.now (length a.chain.now) c.requires (λ e. omega (arith, some, e))

@@ -3,4 +3,4 @@ use Rattle.record.proofs.codec.code_at.Goals as goal
 
 pub returns : goal.returns
 unfolding decode
-returns c = c.u16_at.ensures
+returns c = c.get.ensures

@@ -5,7 +5,7 @@ pub returns : goal.returns
 unfolding decode
 returns c = record {
   code = c.code_at-code.ensures;
-  action = c.u16_at-action.ensures;
-  function = c.u16_at-function.ensures;
+  action = c.get-action.ensures;
+  function = c.get-function.ensures;
   fill = c.fill_at-fill.ensures;
 }

@@ -6,4 +6,4 @@ pub returns : goal.returns
 unfolding decode
 returns c =
     c.fill_of.ensures
-    ∙ (λ i. fill_of (c.u8_at.ensures i) (c.u64_at.ensures i) (c.u64_at-2.ensures i) (c.u64_at-3.ensures i))
+    ∙ (λ i. fill_of (c.get.ensures i) (c.get-2.ensures i) (c.get-3.ensures i) (c.get-4.ensures i))

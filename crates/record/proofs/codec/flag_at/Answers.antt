@@ -3,4 +3,4 @@ use Rattle.store.specs.Record.{flag_of}
 use Rattle.record.proofs.codec.flag_at.Goals as goal
 
 pub returns : goal.returns
-returns c = ap flag_of c.u8_at.ensures
+returns c = ap flag_of c.get.ensures

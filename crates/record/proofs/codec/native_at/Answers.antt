@@ -3,4 +3,4 @@ use Rattle.record.proofs.codec.native_at.Goals as goal
 
 pub returns : goal.returns
 unfolding decode
-returns c = c.u64_at.ensures
+returns c = c.get.ensures

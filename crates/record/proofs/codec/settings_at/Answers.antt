@@ -6,9 +6,9 @@ unfolding decode
 returns c =
     λ i.
     record {
-      read_timer = c.u16_at-4.ensures i;
-      write_timer = c.u16_at-5.ensures i;
-      write_cache = record { state = c.u16_at.ensures i; persistent = c.flag_at.ensures i };
-      reordering = record { state = c.u16_at-2.ensures i; persistent = c.flag_at-2.ensures i };
-      log_interval = record { state = c.u16_at-3.ensures i; persistent = c.flag_at-3.ensures i };
+      read_timer = c.get-4.ensures i;
+      write_timer = c.get-5.ensures i;
+      write_cache = record { state = c.get.ensures i; persistent = c.flag_at.ensures i };
+      reordering = record { state = c.get-2.ensures i; persistent = c.flag_at-2.ensures i };
+      log_interval = record { state = c.get-3.ensures i; persistent = c.flag_at-3.ensures i };
     }

@@ -3,4 +3,4 @@ use Rattle.store.specs.Record.{stage_of}
 use Rattle.record.proofs.codec.stage_at.Goals as goal
 
 pub returns : goal.returns
-returns c = c.stage_of.ensures ∙ ap stage_of c.u8_at.ensures
+returns c = c.stage_of.ensures ∙ ap stage_of c.get.ensures

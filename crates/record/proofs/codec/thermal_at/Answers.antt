@@ -7,10 +7,10 @@ unfolding decode
 returns c =
     λ i.
     record {
-      current = c.u8_at.ensures i;
-      cycle_maximum = c.u8_at-2.ensures i;
-      life_maximum = c.u8_at-3.ensures i;
+      current = c.get.ensures i;
+      cycle_maximum = c.get-2.ensures i;
+      life_maximum = c.get-3.ensures i;
       history = history_of c.args.device.now;
-      index = c.u16_at.ensures i;
-      minutes = c.u16_at-2.ensures i;
+      index = c.get-4.ensures i;
+      minutes = c.get-5.ensures i;
     }

@@ -11,5 +11,5 @@ returns c =
     c.command_sound.ensures
     c.settings_sound.ensures
     c.settings_at-settings.ensures
-    c.u16_at.ensures
-    c.u16_at-2.ensures
+    c.get.ensures
+    c.get-2.ensures

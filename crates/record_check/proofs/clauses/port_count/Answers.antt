@@ -13,6 +13,6 @@ returns c =
     let first = get 8 r (at + 8) in
     let end = get 8 r (at + 16) in
     record {
-      value = c.count_of.ensures.by_index first end ∙ ap (λ (kind : ℕ). pending_count (transfer_of kind first end ∷ [])) c.u8_at.ensures;
+      value = c.count_of.ensures.by_index first end ∙ ap (λ (kind : ℕ). pending_count (transfer_of kind first end ∷ [])) c.get.ensures;
       small = c.count_of.ensures.small;
     }

@@ -3,4 +3,4 @@ use Rattle.record_check.proofs.places.fill_named.Goals as goal
 
 pub returns : goal.returns
 unfolding fill_named
-returns c = rw (c.u8_at-kind.ensures, c.u64_at-first.ensures, c.u64_at-next.ensures, c.u64_at-end.ensures)
+returns c = rw (c.get-kind.ensures, c.get-first.ensures, c.get-next.ensures, c.get-end.ensures)

@@ -1,4 +1,4 @@
 use Rattle.record_check.proofs.places.flag_named.Goals as goal
 
 pub returns : goal.returns
-returns c = rw c.u8_at.ensures
+returns c = rw c.get.ensures

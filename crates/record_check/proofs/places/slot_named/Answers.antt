@@ -6,8 +6,8 @@ unfolding slot_named
 returns c =
     rw (
       c.transfer_named.ensures,
-      c.u8_at-stage.ensures,
-      c.u8_at-kind.ensures,
-      c.u64_at-first.ensures,
-      c.u64_at-end.ensures,
+      c.get-stage.ensures,
+      c.get-kind.ensures,
+      c.get-first.ensures,
+      c.get-end.ensures,
     )

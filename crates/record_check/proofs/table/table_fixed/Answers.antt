@@ -3,4 +3,4 @@ use Rattle.record_check.proofs.table.table_fixed.Goals as goal
 
 pub returns : goal.returns
 unfolding table_fixed
-returns c = rw (c.u32_at-versions.ensures, c.u32_at-limits.ensures, c.is_zero-zero.ensures, c.u16_at-size.ensures)
+returns c = rw (c.get-versions.ensures, c.get-limits.ensures, c.is_zero-zero.ensures, c.get-size.ensures)

@@ -5,10 +5,10 @@ pub returns : goal.returns
 returns c =
     record {
       device_after = rw (
-        c.put_u16-3.ensures,
-        c.put_u16-2.ensures,
-        c.put_u16.ensures,
-        c.put_u8.ensures,
+        c.put-4.ensures,
+        c.put-3.ensures,
+        c.put-2.ensures,
+        c.put.ensures,
         c.fill_kind.ensures,
       );
       fits = omega (arith, c.well_formed, c.fill_kind.ensures, c.fill_kind.type_inv);

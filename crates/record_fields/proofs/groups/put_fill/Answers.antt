@@ -5,11 +5,11 @@ pub returns : goal.returns
 returns c =
     record {
       device_after = rw (
-        c.put_u64-3.ensures,
+        c.put-3.ensures,
         c.fill_end.ensures,
-        c.put_u64-2.ensures,
+        c.put-2.ensures,
         c.next_sector.ensures,
-        c.put_u64.ensures,
+        c.put.ensures,
         c.fill_first.ensures,
       );
       fits = omega (

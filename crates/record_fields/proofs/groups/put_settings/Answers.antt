@@ -5,16 +5,16 @@ pub returns : goal.returns
 returns c =
     record {
       device_after = rw (
-        c.put_u8-3.ensures,
+        c.put-7.ensures,
         c.bit_of-3.ensures.value,
-        c.put_u8-2.ensures,
+        c.put-6.ensures,
         c.bit_of-2.ensures.value,
-        c.put_u8.ensures,
+        c.put-5.ensures,
         c.bit_of.ensures.value,
-        c.put_u16-4.ensures,
-        c.put_u16-3.ensures,
-        c.put_u16-2.ensures,
-        c.put_u16.ensures,
+        c.put-4.ensures,
+        c.put-3.ensures,
+        c.put-2.ensures,
+        c.put.ensures,
       );
       fits = omega (
         arith,

@@ -5,12 +5,12 @@ pub returns : goal.returns
 returns c =
     record {
       device_after = rw (
-        c.put_u8-2.ensures,
+        c.put-4.ensures,
         c.bit_of-2.ensures.value,
-        c.put_u8.ensures,
+        c.put-3.ensures,
         c.bit_of.ensures.value,
-        c.put_u64-2.ensures,
-        c.put_u64.ensures,
+        c.put-2.ensures,
+        c.put.ensures,
       );
       fits = omega (arith, c.well_formed, c.bit_of.ensures.value, c.bit_of.type_inv, c.bit_of-2.ensures.value, c.bit_of-2.type_inv);
     }

@@ -5,13 +5,13 @@ pub returns : goal.returns
 returns c =
     record {
       device_after = rw (
-        c.put_u64-2.ensures,
+        c.put-4.ensures,
         c.transfer_end.ensures,
-        c.put_u64.ensures,
+        c.put-3.ensures,
         c.transfer_first.ensures,
-        c.put_u8-2.ensures,
+        c.put-2.ensures,
         c.transfer_kind.ensures,
-        c.put_u8.ensures,
+        c.put.ensures,
         c.stage_number.ensures,
       );
       fits = omega (

@@ -1,4 +1,4 @@
 use Rattle.record_write.proofs.fields.put_stage.Goals as goal
 
 pub returns : goal.returns
-returns c = rw (c.put_u8.ensures, c.stage_number.ensures)
+returns c = rw (c.put.ensures, c.stage_number.ensures)

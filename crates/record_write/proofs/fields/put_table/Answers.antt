@@ -2,4 +2,4 @@ use Rattle.record_write.proofs.fields.put_table.Goals as goal
 
 pub returns : goal.returns
 returns c =
-    rw (c.put_u16-2.ensures, c.put_u16.ensures)
+    rw (c.put-2.ensures, c.put.ensures)

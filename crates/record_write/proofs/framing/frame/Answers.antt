@@ -5,9 +5,9 @@ pub returns : goal.returns
 returns c =
     rw (
       c.empty_history.ensures,
-      c.put_u16.ensures,
-      c.put_u32-2.ensures,
-      c.put_u32.ensures,
+      c.put-3.ensures,
+      c.put-2.ensures,
+      c.put.ensures,
       c.zero_part.ensures,
     )
     (blank-stored c.args.device.now c.requires)

@@ -9,5 +9,5 @@ pub returns : goal.returns
 unfolding registers_bytes
 returns c =
     let a = c.args in
-    rw (c.put_u8-5.ensures, c.put_u8-4.ensures, c.put_u8-3.ensures, c.put_u8-2.ensures, c.put_u8.ensures, c.zero_part.ensures)
+    rw (c.put-5.ensures, c.put-4.ensures, c.put-3.ensures, c.put-2.ensures, c.put.ensures, c.zero_part.ensures)
     (form-within registers_size (registers_fields (as_registers a.r)) a.area.now a.at refl)

@@ -5,12 +5,12 @@ pub returns : goal.returns
 returns c =
     let a = c.args in
     rw (
-      c.put_u8.ensures,
+      c.put-5.ensures,
       c.drive_state.ensures,
-      c.put_u32.ensures,
+      c.put-4.ensures,
       c.bit_of.ensures.value,
-      c.put_u16-3.ensures,
-      c.put_u16-2.ensures,
-      c.put_u16.ensures,
+      c.put-3.ensures,
+      c.put-2.ensures,
+      c.put.ensures,
       add-zero a.at,
     )

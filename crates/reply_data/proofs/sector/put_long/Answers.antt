@@ -15,5 +15,5 @@ returns c =
     let a = c.args in
     let content = part a.disk.now (sector_size * a.lba) sector_size in
     let stored = get check_size a.check_area.now (check_size * a.lba) in
-    rw (c.put_u16.ensures, c.u16_at-stored.ensures, c.put_sector.ensures)
+    rw (c.put.ensures, c.get-stored.ensures, c.put_sector.ensures)
     (reply-more a.area.now a.at (as_registers a.reply) content (le check_size stored) sector_size (length_part a.disk.now (sector_size * a.lba) sector_size c.requires.1) (omega (arith, length-le check_size stored)))

@@ -8,20 +8,20 @@ pub returns-then-command : goal.returns-then-command
 unfolding request_of
 returns-then-command c =
     let a = c.args in
-    rw (byte_of a.area.now a.at 11 (omega arith) c.u8_at-command.ensures, eq-eqb _ _ c.if-command.true) c.smart_log.ensures
+    rw (byte_of a.area.now a.at 11 (omega arith) c.get-command.ensures, eq-eqb _ _ c.if-command.true) c.smart_log.ensures
 
 pub returns-then-command-eq-READ_LOG_EXT : goal.returns-then-command-eq-READ_LOG_EXT
 unfolding request_of
 returns-then-command-eq-READ_LOG_EXT c =
     let a = c.args in
-    rw (byte_of a.area.now a.at 11 (omega arith) c.u8_at-command.ensures, ne_eqb _ _ c.if-command.false, eq-eqb _ _ c.if-command-eq-READ_LOG_EXT.true) c.log_ext.ensures
+    rw (byte_of a.area.now a.at 11 (omega arith) c.get-command.ensures, ne_eqb _ _ c.if-command.false, eq-eqb _ _ c.if-command-eq-READ_LOG_EXT.true) c.log_ext.ensures
 
 pub returns-then-command-eq-WRITE_LOG_EXT : goal.returns-then-command-eq-WRITE_LOG_EXT
 unfolding request_of
 returns-then-command-eq-WRITE_LOG_EXT c =
     let a = c.args in
     rw (
-      byte_of a.area.now a.at 11 (omega arith) c.u8_at-command.ensures,
+      byte_of a.area.now a.at 11 (omega arith) c.get-command.ensures,
       ne_eqb _ _ c.if-command.false,
       ne_eqb _ _ c.if-command-eq-READ_LOG_EXT.false,
       eq-eqb _ _ c.if-command-eq-WRITE_LOG_EXT.true,
@@ -33,7 +33,7 @@ unfolding request_of
 returns-then-command-eq-READ_SECTORS_EXT c =
     let a = c.args in
     rw (
-      byte_of a.area.now a.at 11 (omega arith) c.u8_at-command.ensures,
+      byte_of a.area.now a.at 11 (omega arith) c.get-command.ensures,
       ne_eqb _ _ c.if-command.false,
       ne_eqb _ _ c.if-command-eq-READ_LOG_EXT.false,
       ne_eqb _ _ c.if-command-eq-WRITE_LOG_EXT.false,
@@ -46,7 +46,7 @@ unfolding request_of
 returns-then-command-eq-WRITE_SECTORS_EXT c =
     let a = c.args in
     rw (
-      byte_of a.area.now a.at 11 (omega arith) c.u8_at-command.ensures,
+      byte_of a.area.now a.at 11 (omega arith) c.get-command.ensures,
       ne_eqb _ _ c.if-command.false,
       ne_eqb _ _ c.if-command-eq-READ_LOG_EXT.false,
       ne_eqb _ _ c.if-command-eq-WRITE_LOG_EXT.false,
@@ -60,7 +60,7 @@ unfolding request_of
 returns c =
     let a = c.args in
     rw (
-      byte_of a.area.now a.at 11 (omega arith) c.u8_at-command.ensures,
+      byte_of a.area.now a.at 11 (omega arith) c.get-command.ensures,
       ne_eqb _ _ c.if-command.false,
       ne_eqb _ _ c.if-command-eq-READ_LOG_EXT.false,
       ne_eqb _ _ c.if-command-eq-WRITE_LOG_EXT.false,

@@ -6,4 +6,4 @@ use Rattle.request.proofs.request.sector.Goals as goal
 pub returns : goal.returns
 returns c =
     let a = c.args in
-    rw (number_of 2 a.area.now a.at mailbox_size 2 (omega arith) c.u16_at-count.ensures, c.lba48-lba.ensures)
+    rw (number_of 2 a.area.now a.at mailbox_size 2 (omega arith) c.get-count.ensures, c.lba48-lba.ensures)

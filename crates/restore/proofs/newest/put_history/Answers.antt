@@ -2,12 +2,12 @@ use mathlib.Core.Path.{sym, ◌∙◌}
 use Rattle.restore.proofs.RestoreLaws.{history-copied, history-left}
 use Rattle.restore.proofs.newest.put_history.Goals as goal
 
-pub returns-then-interval-u16_at : goal.returns-then-interval-u16_at
-returns-then-interval-u16_at c =
+pub returns-then-interval-get : goal.returns-then-interval-get
+returns-then-interval-get c =
     let a = c.args in
-    c.copy_part.ensures ∙ history-copied a.device.now a.image.now a.at a.interval (c.if-interval-u16_at.true ∙ c.u16_at.ensures)
+    c.copy_part.ensures ∙ history-copied a.device.now a.entry.now 0 a.interval (c.if-interval-get.true ∙ c.get.ensures)
 
-pub returns-else-interval-u16_at : goal.returns-else-interval-u16_at
-returns-else-interval-u16_at c =
+pub returns-else-interval-get : goal.returns-else-interval-get
+returns-else-interval-get c =
     let a = c.args in
-    history-left a.device.now a.image.now a.at a.interval (λ e. c.if-interval-u16_at.false (e ∙ sym c.u16_at.ensures))
+    history-left a.device.now a.entry.now 0 a.interval (λ e. c.if-interval-get.false (e ∙ sym c.get.ensures))

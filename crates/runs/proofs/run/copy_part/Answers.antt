@@ -1,28 +1,12 @@
--- The invariant: `dst` is what it was with the first j bytes copied.
 use native.Mathlib.Numerals.{add-one}
-use mathlib.Core.Path.{◌≡◌, refl}
-use Prim.Native.Nat.{zero-le}
 use native.Mathlib.Omega.{arith}
 use lib.ListN.{length-set}
 use Rattle.runs.proofs.RunLaws.{copy_more}
 use Rattle.runs.proofs.run.copy_part.Goals as goal
 
-pub loop-j-init : goal.loop-j-init
-loop-j-init c = (zero-le, refl, refl)
-
 pub loop-j-preserved : goal.loop-j-preserved
 loop-j-preserved c =
     let a = c.args in (
-      omega arith,
-      simp length-set c.loop-j.invariant.1,
-      rw (c.loop-j.invariant.2, add-one) (copy_more a.dst.now a.src.now a.at a.from c.loop-j.j (omega arith)),
+      simp length-set c.loop-j.invariant.0,
+      rw (c.loop-j.invariant.1, add-one) (copy_more a.dst.now a.src.now a.at a.from c.loop-j.j (omega arith)),
     )
-
-pub shape_of-dst : goal.shape_of-dst
-shape_of-dst c = c.loop-j.invariant.1
-
-pub returns : goal.returns
-returns c =
-    let a = c.args in
-    let past : c.loop-j.j ≡ a.n = omega arith in
-    rw (c.loop-j.invariant.2, past)

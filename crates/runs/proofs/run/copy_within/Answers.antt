@@ -1,35 +1,11 @@
--- The invariant: `s` is what it was with the first j bytes copied.
-use native.Mathlib.Numerals.{add-one}
-use Rattle.wire.proofs.NumbersLaws.{get_or_sets_before}
-use mathlib.Core.Path.{◌≡◌, refl}
-use Prim.Native.Nat.{◌+◌, zero-le}
+use Prim.Native.Nat.{◌-◌, ◌+◌}
+use mathlib.Core.Path.{◌∙◌}
 use native.Mathlib.Omega.{arith}
-use lib.ListN.{length-set}
-use Rattle.wire.specs.Parts.{part}
-use Rattle.runs.proofs.RunLaws.{copy_more}
+use Rattle.runs.proofs.RunLaws.{pasted}
 use Rattle.runs.proofs.run.copy_within.Goals as goal
-
-pub loop-j-init : goal.loop-j-init
-loop-j-init c = (zero-le, refl, refl)
-
-pub loop-j-preserved : goal.loop-j-preserved
-loop-j-preserved c =
-    let a = c.args in (
-      omega arith,
-      simp length-set c.loop-j.invariant.1,
-      rw (
-        c.loop-j.invariant.2,
-        get_or_sets_before (part a.s.now a.from c.loop-j.j) a.s.now a.to (a.from + c.loop-j.j) (omega arith),
-        add-one,
-      )
-          (copy_more a.s.now a.s.now a.to a.from c.loop-j.j (omega arith)),
-    )
-
-pub shape_of-s : goal.shape_of-s
-shape_of-s c = c.loop-j.invariant.1
 
 pub returns : goal.returns
 returns c =
     let a = c.args in
-    let past : c.loop-j.j ≡ a.n = omega arith in
-    rw (c.loop-j.invariant.2, past)
+    c.copy_within.ensures.after
+    ∙ pasted a.s.now a.to a.from (a.from + a.n - a.from) a.n (omega arith) (omega arith) (omega arith)

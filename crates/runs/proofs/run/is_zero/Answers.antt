@@ -1,7 +1,5 @@
--- The invariant: `all` is true if the first j bytes are 0, and false otherwise.
 use native.Mathlib.Numerals.{add-one}
-use mathlib.Core.Path.{◌≡◌, refl}
-use Prim.Native.Nat.{zero-le}
+use mathlib.Core.Path.{refl}
 use native.Mathlib.Omega.{arith}
 use Rattle.wire.specs.Bytes.{all_zero}
 use Rattle.runs.proofs.RunLaws.{all_zero-more}
@@ -9,14 +7,7 @@ use Rattle.runs.proofs.run.is_zero.Goals as goal
 
 pub loop-j-init : goal.loop-j-init
 unfolding all_zero
-loop-j-init c = (zero-le, refl)
+loop-j-init c = refl
 
 pub loop-j-preserved : goal.loop-j-preserved
-loop-j-preserved c =
-    let a = c.args in (omega arith, rw (c.loop-j.invariant.1, add-one) (all_zero-more a.s.now a.from c.loop-j.j (omega arith)))
-
-pub returns : goal.returns
-returns c =
-    let a = c.args in
-    let past : c.loop-j.j ≡ a.n = omega arith in
-    rw (c.loop-j.invariant.1, past)
+loop-j-preserved c = let a = c.args in rw (c.loop-j.invariant, add-one) (all_zero-more a.s.now a.from c.loop-j.j (omega arith))

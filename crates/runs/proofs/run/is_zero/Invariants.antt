@@ -1,12 +1,8 @@
 -- What holds at each turn.
 use mathlib.Core.Path.{◌≡◌}
-use Prim.Native.Nat.{◌-◌, ◌≤◌}
 use Rattle.wire.specs.Parts.{part}
 use Rattle.wire.specs.Bytes.{all_zero}
 use Rattle.runs.proofs.run.is_zero.Given as goal
 
 abbrev pub invariant-loop-j : goal.invariant-loop-j
-invariant-loop-j l = (l.j ≤ l.n) × (l.all ≡ all_zero (part l.s l.from l.j))
-
-abbrev pub decreases-loop-j : goal.decreases-loop-j
-decreases-loop-j l = l.n - l.j
+invariant-loop-j l = l.all ≡ all_zero (part l.s l.from l.j)

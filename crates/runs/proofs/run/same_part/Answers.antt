@@ -1,7 +1,5 @@
--- The invariant: `all` is true if the first j bytes are the same, and false otherwise.
 use native.Mathlib.Numerals.{add-one}
-use mathlib.Core.Path.{◌≡◌, refl}
-use Prim.Native.Nat.{zero-le}
+use mathlib.Core.Path.{refl}
 use native.Mathlib.Omega.{arith}
 use Rattle.wire.specs.Bytes.{same}
 use Rattle.runs.proofs.RunLaws.{same_more}
@@ -9,15 +7,9 @@ use Rattle.runs.proofs.run.same_part.Goals as goal
 
 pub loop-j-init : goal.loop-j-init
 unfolding same
-loop-j-init c = (zero-le, refl)
+loop-j-init c = refl
 
 pub loop-j-preserved : goal.loop-j-preserved
 loop-j-preserved c =
     let a = c.args in
-    (omega arith, rw (c.loop-j.invariant.1, add-one) (same_more a.a.now a.b.now a.at a.from c.loop-j.j (omega arith) (omega arith)))
-
-pub returns : goal.returns
-returns c =
-    let a = c.args in
-    let past : c.loop-j.j ≡ a.n = omega arith in
-    rw (c.loop-j.invariant.1, past)
+    rw (c.loop-j.invariant, add-one) (same_more a.a.now a.b.now a.at a.from c.loop-j.j (omega arith) (omega arith))

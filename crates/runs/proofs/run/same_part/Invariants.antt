@@ -1,12 +1,8 @@
 -- What holds at each turn.
 use mathlib.Core.Path.{◌≡◌}
-use Prim.Native.Nat.{◌-◌, ◌≤◌}
 use Rattle.wire.specs.Parts.{part}
 use Rattle.wire.specs.Bytes.{same}
 use Rattle.runs.proofs.run.same_part.Given as goal
 
 abbrev pub invariant-loop-j : goal.invariant-loop-j
-invariant-loop-j l = (l.j ≤ l.n) × (l.all ≡ same (part l.a l.at l.j) (part l.b l.from l.j))
-
-abbrev pub decreases-loop-j : goal.decreases-loop-j
-decreases-loop-j l = l.n - l.j
+invariant-loop-j l = l.all ≡ same (part l.a l.at l.j) (part l.b l.from l.j)

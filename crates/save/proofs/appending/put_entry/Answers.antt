@@ -1,10 +1,11 @@
 use native.Mathlib.Omega.{arith}
 use Rattle.store.proofs.SoundLaws.{sound-parts}
+use Rattle.image.proofs.UsedLaws.{whole-used, form-used}
 use Rattle.save.proofs.AppendLaws.{entry-stored}
 use Rattle.save.proofs.appending.put_entry.Goals as goal
 
 pub chain_form-entry_form-requires : goal.chain_form-entry_form-requires
-chain_form-entry_form-requires c = let p = c.requires.room in (omega arith, omega (arith, p.1))
+chain_form-entry_form-requires c = whole-used c.args.image.now c.args.used (omega arith) c.requires.room.1
 
 pub put_head-requires : goal.put_head-requires
 put_head-requires c = (omega arith, (sound-parts _ c.requires.device_value).size)
@@ -15,5 +16,5 @@ copy_part-requires c = (omega arith, omega (arith, (sound-parts _ c.requires.dev
 pub returns : goal.returns
 returns c =
     let a = c.args in
-    rw (c.put_trailer.ensures, c.copy_part.ensures, c.put_head.ensures, c.chain_form-entry_form.ensures)
+    rw (c.put_trailer.ensures, c.copy_part.ensures, c.put_head.ensures, c.chain_form-entry_form.ensures, form-used c.args.image.now c.args.used (omega arith) c.requires.room.1)
     (entry-stored a.device.now a.image.now a.used _ (λ i. omega (arith, c.shared_slice_known-1.given i)) c.requires.device_value (omega arith))

@@ -1,7 +1,6 @@
--- The invariant: what the first k rows give.
 use native.Mathlib.Numerals.{add-one}
 use mathlib.Core.Path.{◌≡◌, refl}
-use Prim.Native.Nat.{◌+◌, ◌*◌, zero-le}
+use Prim.Native.Nat.{◌+◌, ◌*◌}
 use native.Mathlib.Omega.{arith}
 use Rattle.sector_check.specs.Xor.{xor_to}
 use Rattle.sector_check.specs.Word.{parity}
@@ -11,31 +10,30 @@ use Rattle.sector_check.proofs.row.rows_of.Goals as goal
 
 pub loop-k-init : goal.loop-k-init
 unfolding xor_to
-loop-k-init c = (zero-le, refl, refl, refl, refl, refl)
+loop-k-init c = (refl, refl, refl, refl, refl)
 
 pub loop-k-preserved : goal.loop-k-preserved
 loop-k-preserved c =
     let k = c.loop-k.k in
     let a = c.args in
     let s = a.s.now in (
-      omega arith,
-      rw (c.loop-k.invariant.1, c.row_of-row.ensures.is_all, add-one) (xor_to-more k (λ j. row_of s (a.at + 64 * j))),
-      rw (c.loop-k.invariant.2, c.row_of-row.ensures.is-ones, add-one) (xor_to-more k (λ j. picked s (a.at + 64 * j) 0)),
-      rw (c.loop-k.invariant.3, c.row_of-row.ensures.is-twos, add-one) (xor_to-more k (λ j. picked s (a.at + 64 * j) 1)),
-      rw (c.loop-k.invariant.4, c.row_of-row.ensures.is-fours, add-one) (xor_to-more k (λ j. picked s (a.at + 64 * j) 2)),
-      rw (c.loop-k.invariant.5, c.weighed-odd.ensures, c.row_of-row.ensures.is_all, add-one)
+      rw (c.loop-k.invariant.0, c.row_of-row.ensures.is_all, add-one) (xor_to-more k (λ j. row_of s (a.at + 64 * j))),
+      rw (c.loop-k.invariant.1, c.row_of-row.ensures.is-ones, add-one) (xor_to-more k (λ j. picked s (a.at + 64 * j) 0)),
+      rw (c.loop-k.invariant.2, c.row_of-row.ensures.is-twos, add-one) (xor_to-more k (λ j. picked s (a.at + 64 * j) 1)),
+      rw (c.loop-k.invariant.3, c.row_of-row.ensures.is-fours, add-one) (xor_to-more k (λ j. picked s (a.at + 64 * j) 2)),
+      rw (c.loop-k.invariant.4, c.weighed-odd.ensures, c.row_of-row.ensures.is_all, add-one)
           (xor_to-more k (λ j. parity (row_of s (a.at + 64 * j)) * (512 * (8 + j)))),
     )
 
 pub returns : goal.returns
 unfolding all_rows picked_rows odd_rows
 returns c =
-    let g = c.loop-k in
-    let past : g.k ≡ 8 = omega arith in
+    let g = c.loop-k.invariant in
+    let past : c.loop-k.k ≡ 8 = omega arith in
     record {
-      are_all = rw (g.invariant.1, past);
-      are-ones = rw (g.invariant.2, past);
-      are-twos = rw (g.invariant.3, past);
-      are-fours = rw (g.invariant.4, past);
-      are-odd = rw (g.invariant.5, past);
+      are_all = rw (g.0, past);
+      are-ones = rw (g.1, past);
+      are-twos = rw (g.2, past);
+      are-fours = rw (g.3, past);
+      are-odd = rw (g.4, past);
     }

@@ -1,3 +1,7 @@
+use mir.Syntax.{w8}
+use mir.Val.{SFits}
+use borrow.Author.Rules.{rules}
+use Rattle.std.proofs.lemmas.Int.{to_z-of_z}
 use borrow.Author.Tests.{eq-eqb, ne_eqb}
 use Rattle.model.specs.Temperature.{new_maximum}
 use Rattle.temperature.proofs.ThermalLaws.{maximum-old, maximum-sample}
@@ -11,12 +15,16 @@ pub returns-then-old-eq-MISSING : goal.returns-then-old-eq-MISSING
 unfolding new_maximum
 returns-then-old-eq-MISSING c = rw (ne_eqb c.args.sample 128 c.if-sample-eq-MISSING.false, eq-eqb c.args.old 128 c.if-old-eq-MISSING.true)
 
-pub returns-then-shifted : goal.returns-then-shifted
-returns-then-shifted c =
-    maximum-old c.args.sample c.args.old c.if-sample-eq-MISSING.false c.if-old-eq-MISSING.false c.ranges.sample.fits c.ranges.old.fits
-    (rw (← c.shifted.ensures, ← c.shifted-2.ensures) c.if-shifted.true)
+pub returns-then-cast_signed : goal.returns-then-cast_signed
+returns-then-cast_signed c =
+    let new : SFits w8 c.cast_signed.result = search rules in
+    let held : SFits w8 c.cast_signed-2.result = search rules in
+    maximum-old c.args.sample c.args.old c.if-sample-eq-MISSING.false c.if-old-eq-MISSING.false
+    (rw (to_z-of_z, to_z-of_z, c.cast_signed.ensures, c.cast_signed-2.ensures) at c.if-cast_signed.true)
 
 pub returns : goal.returns
 returns c =
-    maximum-sample c.args.sample c.args.old c.if-sample-eq-MISSING.false c.if-old-eq-MISSING.false c.ranges.sample.fits c.ranges.old.fits
-    (rw (← c.shifted.ensures, ← c.shifted-2.ensures) c.if-shifted.false)
+    let new : SFits w8 c.cast_signed.result = search rules in
+    let held : SFits w8 c.cast_signed-2.result = search rules in
+    maximum-sample c.args.sample c.args.old c.if-sample-eq-MISSING.false c.if-old-eq-MISSING.false
+    (rw (to_z-of_z, to_z-of_z, c.cast_signed.ensures, c.cast_signed-2.ensures) at c.if-cast_signed.false)

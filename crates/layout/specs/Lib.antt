@@ -1,0 +1,2 @@
+-- The definitions of layout.
+pub mod Answer
