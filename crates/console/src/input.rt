@@ -13,7 +13,7 @@ pub enum Arrival {
 }
 
 // What a read is that returned `count` bytes of a `size`-byte record.
-fn arrived(count: usize, size: usize) -> Arrival
+pub fn arrived(count: usize, size: usize) -> Arrival
     ensures { result ≡ arrival_of size count }
 {
     match count {

@@ -5,5 +5,5 @@
 mod input;
 mod line;
 
-pub use input::{Arrival, read_full, read_record};
-pub use line::Line;
+pub use input::{Arrival, arrived, read_full, read_record};
+pub use line::{Line, put_byte, put_decimal, put_text};

@@ -27,8 +27,8 @@ impl Timers {
 // The forms of an entry, by their numbers: "form 1 leaves the timers out"
 #[derive(Clone, Copy, Debug, PartialEq, Eq)]
 pub enum Form {
-    One = 1,
-    Two = 2,
+    One = entry::FORM_1 as isize,
+    Two = entry::FORM_2 as isize,
 }
 
 // A number that no form has.
@@ -42,8 +42,8 @@ impl TryFrom<u32> for Form {
 
     fn try_from(number: u32) -> Result<Self, UnknownForm> {
         match number {
-            1 => Ok(Form::One),
-            2 => Ok(Form::Two),
+            entry::FORM_1 => Ok(Form::One),
+            entry::FORM_2 => Ok(Form::Two),
             _ => Err(UnknownForm(number)),
         }
     }

@@ -8,7 +8,7 @@ ghost use Rattle.image.specs.EntryTests.{NewestIs};
 
 use crate::entry::{Common, common_of, entry_holds, form_of};
 use entry_timers::Form;
-use layout::{BODY, ENTRIES, ENTRY, ENTRY_U32, TRAILER_U32, entry};
+use layout::{BODY, ENTRY, ENTRY_U32, IMAGE_LIMIT, TRAILER_U32, entry};
 use wire::Number;
 
 // "Reading starts at the last trailer and follows the chain back": the entries from `number` down to the first, the last trailer at `at`.
@@ -40,7 +40,7 @@ pub fn readable(chain: &[u8]) -> bool
     if !rest.is_empty() {
         return false;
     }
-    if entries.len() > ENTRIES {
+    if chain.len() > IMAGE_LIMIT {
         return false;
     }
     match chain.last_chunk::<ENTRY>() {

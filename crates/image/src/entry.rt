@@ -124,7 +124,7 @@ pub fn previous_place(number: u32) -> u32
 fn tag_holds(entry: &[u8; ENTRY]) -> bool
     ensures { result ≡ same (part entry.now (body_size + tag_place) 4) tag }
 {
-    entry.ends_with(&TAG)
+    runs::same_part(entry, BODY + entry::TAG_AT, &TAG, 0, entry::TAG)
 }
 
 // Whether the trailer of an entry is that of this number.

@@ -40,6 +40,11 @@ pub const WRITE_TIMER_AT: usize = 28;
 
 pub const ZEROS_AT: usize = 30;
 
+// The forms by their numbers: form 1 leaves the timers out.
+pub const FORM_1: u32 = 1;
+
+pub const FORM_2: u32 = 2;
+
 pub const TABLE_AT: usize = 32;
 
 pub const ZEROS: usize = TABLE_AT - ZEROS_AT;

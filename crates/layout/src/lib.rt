@@ -75,3 +75,5 @@ pub const ENTRY: usize = BODY + TRAILER;
 pub const ENTRY_U32: u32 = ENTRY as u32;
 
 pub const ENTRIES: usize = 117;
+
+pub const IMAGE_LIMIT: usize = ENTRY * ENTRIES;

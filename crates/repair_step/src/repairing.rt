@@ -1,6 +1,6 @@
 // The repair of the sector at an LBA: what it reports, the sector and the record afterwards.
 ghost use Rattle.std.specs.Prelude.{◌≡◌, true, ◌<◌};
-ghost use Rattle.sector_check.specs.Repair.{report_number};
+ghost use Rattle.sector_check.specs.Reports.{report_number};
 ghost use Rattle.model.specs.Disk.{disk_of, HasSize};
 ghost use Rattle.store.specs.Record.{decode};
 ghost use Rattle.store.specs.Sound.{sound};

@@ -2,9 +2,10 @@
 use mathlib.Core.Path.{◌≡◌, sym, ap, ◌∙◌}
 use mathlib.Core.Bool.{◌&&◌, and-true, and_assoc}
 use Prim.Native.Nat.{ℕ, suc, ◌+◌, ◌≤◌, ◌<◌}
+use native.Mathlib.Numerals.{add-one}
 use native.Mathlib.Omega.{arith}
 use mathlib.Core.List.{List, [], ◌∷◌, ◌++◌}
-use lib.ListN.{length, get_or, set, drop, length-drop}
+use lib.ListN.{length, get_or, set, drop, length-drop, length-replicate, replicate, replicate-append-replicate}
 use lib.Seq.{sets, sets-eq, paste, take-suc, get_or-drop}
 use lib.Dec.{eqb}
 use Rattle.wire.specs.Parts.{part}
@@ -23,6 +24,11 @@ sets-snoc d xs at n x e = rw (← e) (sym (sets-append xs (x ∷ []) d at))
 pub copy_more : (d l : List ℕ) (at b j : ℕ) → b + j < length l → set (sets d at (part l b j)) (at + j) (get_or l (b + j) 0) ≡ sets d at (part l b (suc j))
 copy_more d l at b j h =
     sets-snoc d (part l b j) at j (get_or l (b + j) 0) (length_part l b j (omega arith)) ∙ ap (sets d at) (sym (part-snoc l b j h))
+
+pub replicate_more : (d : List ℕ) (at j a : ℕ) → set (sets d at (replicate j a)) (at + j) a ≡ sets d at (replicate (suc j) a)
+replicate_more d at j a =
+    sets-snoc d (replicate j a) at j a (length-replicate j a)
+    ∙ ap (sets d at) (replicate-append-replicate j 1 a ∙ ap (λ (n : ℕ). replicate n a) (add-one j))
 
 -- what `copy_within` leaves
 pub pasted : (l : List ℕ) (to from m n : ℕ) → m ≡ n → from + n ≤ length l → to + n ≤ length l → paste l to (drop from l) m ≡ sets l to (part l from n)

@@ -2,7 +2,7 @@
 use Rattle.std.specs.Prelude.{ℕ, ◌+◌, ◌*◌, Result, Ok, Err}
 use Rattle.std.specs.Result.{result_unwrap_or}
 use Rattle.sector_check.specs.declared.repairing.Report.{Report}
-use Rattle.sector_check.specs.Repair.{report_number}
+use Rattle.sector_check.specs.Reports.{report_number}
 use Rattle.layout.specs.declared.answer.Refusal.{Refusal}
 
 -- the sectors that a work step wrote; a refused step reports 0

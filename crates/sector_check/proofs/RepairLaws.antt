@@ -13,7 +13,8 @@ use denote.Enum.Declared.{tag_of}
 use Rattle.sector_check.specs.contracts.repairing.Report.{the_type}
 use Rattle.sector_check.specs.declared.repairing.Report.{Report}
 use Rattle.sector_check.specs.declared.repairing.Report.TheVariants.{Equal, Flipped, Uncorrectable}
-use Rattle.sector_check.specs.Repair.{difference, report_number, report_of, repaired_sector}
+use Rattle.sector_check.specs.Repair.{difference, report_of, repaired_sector}
+use Rattle.sector_check.specs.Reports.{report_number}
 use Rattle.sector_check.proofs.XorLaws.{xor-back, xor-zero-eq}
 
 -- the number that `as` gives

@@ -4,3 +4,4 @@ pub mod Check
 pub mod Repair
 pub mod Word
 pub mod Row
+pub mod Reports

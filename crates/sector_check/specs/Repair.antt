@@ -2,8 +2,6 @@
 use Rattle.std.specs.Prelude.{ℕ, ◌/◌, ◌%◌, List, eqb, if◌then◌else◌}
 use Rattle.std.specs.Int.Bits.{bit_xor}
 use Rattle.sector_check.specs.Check.{check_of, flip}
-use Rattle.sector_check.specs.declared.repairing.Report.{Report}
-use Rattle.sector_check.specs.declared.repairing.Report.TheVariants.{Equal, Flipped, Uncorrectable}
 
 -- where the stored check and the computed one differ: a one for each bit that does; W-202: "the differing position" is its bits 0 to 11
 unfoldable pub difference : ℕ → List ℕ → ℕ
@@ -16,12 +14,6 @@ report_of stored s =
     if eqb stored (check_of s) then 0
     else if eqb (difference stored s / 4096) 1 then 1
     else 2
-
--- the number of a report
-abbrev pub report_number : Report → ℕ
-report_number Equal = 0
-report_number Flipped = 1
-report_number Uncorrectable = 2
 
 -- W-202: "it flips the data bit at the differing position"; "only 1 alters a sector"
 unfoldable pub repaired_sector : ℕ → List ℕ → List ℕ

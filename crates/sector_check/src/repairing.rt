@@ -3,7 +3,8 @@ ghost use Rattle.std.specs.Prelude.{◌≡◌, ◌+◌, ◌<◌, ◌≤◌, leng
 ghost use Rattle.std.proofs.lemmas.List.Edits.{sets};
 ghost use Rattle.wire.specs.Parts.{part};
 ghost use Rattle.sector_check.specs.Check.{flip};
-ghost use Rattle.sector_check.specs.Repair.{report_number, report_of, repaired_sector};
+ghost use Rattle.sector_check.specs.Repair.{report_of, repaired_sector};
+ghost use Rattle.sector_check.specs.Reports.{report_number};
 
 use crate::sector::check_of;
 use layout::SECTOR;

@@ -1,6 +1,8 @@
 // A command of a bus trace: its record of 7 bytes, and what kind of command it is to the timer.
-ghost use Rattle.std.specs.Prelude.{◌≡◌};
-ghost use Rattle.timing.specs.Command.{command_at, setting_of, kind_of};
+ghost use Rattle.std.specs.Prelude.{◌≡◌, ◌+◌, ◌≤◌, length};
+ghost use Rattle.timing.specs.Command.{record_size, command_at, setting_of, kind_of};
+
+use wire::Number;
 
 // Command codes: READ DMA, READ DMA EXT, WRITE DMA, WRITE DMA EXT; FLUSH CACHE, FLUSH CACHE EXT; SET FEATURES.
 const READ_DMA: u8 = 0xC8;
@@ -22,8 +24,14 @@ const TIME_LIMIT: u8 = 0x20;
 
 const ERROR_HANDLING: u8 = 0x21;
 
-// The bytes of a record.
+// The bytes of a record, and the places in it.
 pub const RECORD: usize = 7;
+
+const FEATURE_AT: usize = 1;
+
+const COUNT_AT: usize = 2;
+
+const DURATION_AT: usize = 3;
 
 // "command, feature, count (a byte each) and duration in ms"
 #[derive(Clone, Copy)]
@@ -69,18 +77,25 @@ fn setting_of(feature: u8) -> Kind
     }
 }
 
+// The command in the seven bytes from `at`.
+#[tactic(auto, unfolding(crate::specs::Command::command_at))]
+pub fn command_at(input: &[u8], at: usize) -> Command
+    requires { at + record_size ≤ length input.now }
+    ensures { result ≡ command_at input.now at }
+{
+    Command {
+        code: input[at],
+        feature: input[at + FEATURE_AT],
+        count: input[at + COUNT_AT],
+        duration: u32::get(input, at + DURATION_AT),
+    }
+}
+
 // The command in the seven bytes of a record.
 impl From<&[u8; RECORD]> for Command {
     ghost from_gives = { λ bytes c. c ≡ command_at bytes.now 0 };
 
-    #[tactic(auto, unfolding(crate::specs::Command::command_at, wire::specs::Numbers::get))]
     fn from(bytes: &[u8; RECORD]) -> Command {
-        let [code, feature, count, d0, d1, d2, d3] = *bytes;
-        Command {
-            code,
-            feature,
-            count,
-            duration: u32::from_le_bytes([d0, d1, d2, d3]),
-        }
+        command_at(bytes, 0)
     }
 }

@@ -6,6 +6,6 @@ mod command;
 mod drive;
 mod timer;
 
-pub use command::{Command, Kind, RECORD};
+pub use command::{Command, Kind, RECORD, command_at};
 pub use drive::{Drive, Mode, Outcome, Traced};
 pub use timer::Timer;

@@ -1,7 +1,6 @@
 // The trace program: reads records of time-limited commands from standard input in blocks, and prints a line for each.
 #![tactic(auto)]
 
-use console::Line;
 use std::io::{self, Read, Write};
 use timing::{Drive, RECORD};
 use trace_lines::{CUT, LINE};
@@ -16,16 +15,16 @@ const TEXT: usize = RECORDS * LINE + CUT;
 // Reads block after block and prints their lines. The loop is counted, so that it ends; it leaves off where the input does.
 fn all<R: Read, W: Write>(reader: &mut R, out: &mut W) -> io::Result<()> {
     let mut input = [0u8; INPUT];
-    let mut text: Line<TEXT> = Line::new();
+    let mut text = [0u8; TEXT];
     let mut drive = Drive::start();
     for _ in 0..u64::MAX {
         let count = console::read_full(reader, &mut input)?;
-        text.clear();
-        drive = trace_lines::put_trace(drive, &input[..count], &mut text);
-        out.write_all(text.as_bytes())?;
+        let printed = trace_lines::put_trace(drive, &input[..count], &mut text);
+        out.write_all(&text[..printed.end])?;
         if count < INPUT {
             break;
         }
+        drive = printed.drive;
     }
     Ok(())
 }

@@ -1,19 +1,17 @@
 -- The lines of records, one record after the other.
 use mathlib.Core.Path.{◌≡◌, refl, sym, ap, ◌∙◌}
-use Prim.Native.Nat.{ℕ, ◌+◌, zero, suc, ◌*◌, ◌/◌, ◌%◌, ◌≤◌, ◌<◌}
+use Prim.Native.Nat.{ℕ, ◌+◌, zero, suc, ◌*◌, ◌/◌, ◌%◌, ◌≤◌, ◌<◌, zero-le}
 use native.Mathlib.Numerals.{add-one}
 use native.Mathlib.Omega.{arith}
 use mathlib.Core.List.{List, [], ◌∷◌, ◌++◌, append_assoc, append-nil}
-use mathlib.Core.Bool.{Bool}
-use lib.ListN.{length, get_or, take, drop, length-append}
-use lib.Seq.{drop-drop}
-use lib.Dec.{eqb}
-use Rattle.std.specs.Prelude.{if◌then◌else◌}
+use lib.ListN.{length, get_or, take, drop}
+use lib.Seq.{drop-drop, length-sets}
 use Rattle.std.specs.Simd.{first_chunks}
 use Rattle.wire.specs.Parts.{part}
 use Rattle.wire.proofs.PartsLaws.{get_or_part, get-part}
 use native.Mathlib.Nat.{add-zero}
-use Rattle.console.specs.Text.{ascii}
+use Rattle.console.specs.Text.{Wrote}
+use Rattle.console.proofs.WroteLaws.{wrote_then, wrote_as}
 use Rattle.timing.specs.declared.command.Command.{Command}
 use Rattle.timing.specs.declared.drive.Outcome.{Outcome}
 use Rattle.timing.specs.declared.drive.Outcome.TheVariants.{Done, Aborted, Continued, Deferred}
@@ -23,7 +21,7 @@ use Rattle.timing.specs.Command.{record_size, command_at}
 use Rattle.timing.specs.Drive.{traced}
 use Rattle.timing.specs.Trace.{after, outcomes}
 use Rattle.timing.proofs.TraceLaws.{after-parts, outcomes-parts}
-use Rattle.trace_lines.specs.Lines.{commands, line_of, lines_of, printed}
+use Rattle.trace_lines.specs.Lines.{commands, line_of, lines_of, cut_line, printed}
 
 -- record k of the whole records
 chunk-at : (n k : ℕ) (s : List ℕ) → k < n → get_or (first_chunks 7 n s) k [] ≡ part s (7 * k) 7
@@ -70,36 +68,34 @@ module _ (d : Drive) (s : List ℕ) where
       let last = command_at s (record_size * k) ∷ [] in
       rw (add-one, outcomes-parts d (commands k s) last, lines-parts (outcomes d (commands k s)) (outcomes (after d (commands k s)) last), append-nil)
 
-  -- The first k records are printed: `state` is the drive after them, and `text` has their lines behind `before`.
-  pub record PrintedFirst (before : List ℕ) (k : ℕ) (state : Drive) (text : List ℕ) : Type 0 where
+  -- The first k records are printed: `state` is the drive after them, and their lines are `text` up to `end`, which was `before`.
+  pub record PrintedFirst (before : List ℕ) (k : ℕ) (state : Drive) (end : ℕ) (text : List ℕ) : Type 0 where
     pub drive : state ≡ after d (commands k s)
-    pub room : length text ≤ length before + 10 * k
-    pub lines : text ≡ before ++ lines_of (outcomes d (commands k s))
+    pub room : end ≤ 10 * k
+    pub lines : Wrote before 0 (lines_of (outcomes d (commands k s))) end text
 
-  pub none-printed : (before : List ℕ) → PrintedFirst before 0 d before
+  pub none-printed : (before : List ℕ) → PrintedFirst before 0 d 0 before
   unfolding commands after outcomes lines_of
-  none-printed before = record { drive = refl; room = omega arith; lines = sym (append-nil before) }
+  none-printed before = record { drive = refl; room = zero-le; lines = record { place = refl; line = refl } }
 
   -- one record more
-  pub one-more-printed : {before : List ℕ} {k : ℕ} {state : Drive} {text : List ℕ} {after_text : List ℕ}
-      → PrintedFirst before k state text → (c : Command) → c ≡ command_at s (record_size * k) → (t : Traced) → t ≡ traced state c → after_text ≡ text ++ line_of t.outcome
-      → PrintedFirst before (k + 1) t.drive after_text
-  one-more-printed {before} {k} {state} {text} {after_text} p c r t e w =
+  pub one-more-printed : {before : List ℕ} {k : ℕ} {state : Drive} {end : ℕ} {text : List ℕ} {next : ℕ} {after_text : List ℕ}
+      → PrintedFirst before k state end text → (c : Command) → c ≡ command_at s (record_size * k) → (t : Traced) → t ≡ traced state c → Wrote text end (line_of t.outcome) next after_text
+      → PrintedFirst before (k + 1) t.drive next after_text
+  one-more-printed {k = k} p c r t e w =
       let step : t ≡ traced (after d (commands k s)) (command_at s (record_size * k)) = rw (← p.drive, ← r) e in
-      let longer : length after_text ≡ length text + length (line_of t.outcome) = ap length w ∙ length-append text (line_of t.outcome) in
       record {
         drive = ap (λ (x : Traced). x.drive) step ∙ after_more k;
-        room = omega (arith, p.room, longer, line-most t.outcome);
-        lines = w
-            ∙ ap (λ (l : List ℕ). l ++ line_of t.outcome) p.lines
-            ∙ append_assoc before (lines_of (outcomes d (commands k s))) (line_of t.outcome)
-            ∙ ap (λ (x : Traced). before ++ (lines_of (outcomes d (commands k s)) ++ line_of x.outcome)) step
-            ∙ ap (λ (l : List ℕ). before ++ l) (lines_more k);
+        room = omega (arith, p.room, w.place, line-most t.outcome);
+        lines = wrote_as (lines_more k) (wrote_then p.lines (wrote_as (ap (λ (x : Traced). line_of x.outcome) step) w));
       }
 
+  pub length-printed : {before : List ℕ} {k : ℕ} {state : Drive} {end : ℕ} {text : List ℕ} → PrintedFirst before k state end text → length text ≡ length before
+  length-printed {before} {k} p = rw p.lines.line (length-sets before 0 (lines_of (outcomes d (commands k s))))
+
   -- all are printed, and what is left of an input
-  pub all-printed : {before : List ℕ} {k : ℕ} {state : Drive} {text : List ℕ} → PrintedFirst before k state text → k ≡ length s / 7
-      → (b : Bool) → eqb (length s % 7) 0 ≡ b → text ++ (if b then [] else ascii "cut\n") ≡ before ++ printed d s
+  pub all-printed : {before : List ℕ} {k : ℕ} {state : Drive} {end : ℕ} {text : List ℕ} {next : ℕ} {after_text : List ℕ}
+      → PrintedFirst before k state end text → k ≡ length s / 7 → Wrote text end (cut_line (length s % 7)) next after_text
+      → Wrote before 0 (printed d s) next after_text
   unfolding printed
-  all-printed {before} {k} p whole b e =
-      rw (p.lines, e, ← whole) (append_assoc before (lines_of (outcomes d (commands k s))) (if b then [] else ascii "cut\n"))
+  all-printed p whole w = wrote_then (rw (← whole) p.lines) w

@@ -3,4 +3,4 @@
 
 mod lines;
 
-pub use lines::{CUT, LINE, put_trace};
+pub use lines::{CUT, LINE, Progress, put_trace};

@@ -3,6 +3,26 @@ ghost use Rattle.std.specs.Prelude.{◌≡◌, ◌+◌, ◌≤◌, ℕ, length};
 ghost use Rattle.wire.specs.Choice.{bit};
 ghost use Rattle.wire.specs.Numbers.{get, put};
 
+// The bytes of a u16, a u32 and a u64.
+const U16: usize = 2;
+
+const U32: usize = 4;
+
+const U64: usize = 8;
+
+// The places of a number's bytes, from the third on.
+const THIRD: usize = 2;
+
+const FOURTH: usize = 3;
+
+const FIFTH: usize = 4;
+
+const SIXTH: usize = 5;
+
+const SEVENTH: usize = 6;
+
+const EIGHTH: usize = 7;
+
 // A flag as a number.
 pub fn bit_of(b: bool) -> u8
     ensures value { result ≡ bit b }
@@ -49,7 +69,7 @@ impl Number for u8 {
 }
 
 impl Number for u16 {
-    const SIZE: usize = 2;
+    const SIZE: usize = U16;
 
     ghost SIZE = { 2 };
 
@@ -62,12 +82,12 @@ impl Number for u16 {
 
     #[tactic(auto, unfolding(crate::specs::Numbers::put, crate::specs::Numbers::le))]
     fn put(self, s: &mut [u8], at: usize) {
-        s[at..at + 2].copy_from_slice(&self.to_le_bytes());
+        s[at..at + U16].copy_from_slice(&self.to_le_bytes());
     }
 }
 
 impl Number for u32 {
-    const SIZE: usize = 4;
+    const SIZE: usize = U32;
 
     ghost SIZE = { 4 };
 
@@ -75,17 +95,17 @@ impl Number for u32 {
 
     #[tactic(auto, unfolding(crate::specs::Numbers::get))]
     fn get(s: &[u8], at: usize) -> u32 {
-        u32::from_le_bytes([s[at], s[at + 1], s[at + 2], s[at + 3]])
+        u32::from_le_bytes([s[at], s[at + 1], s[at + THIRD], s[at + FOURTH]])
     }
 
     #[tactic(auto, unfolding(crate::specs::Numbers::put, crate::specs::Numbers::le))]
     fn put(self, s: &mut [u8], at: usize) {
-        s[at..at + 4].copy_from_slice(&self.to_le_bytes());
+        s[at..at + U32].copy_from_slice(&self.to_le_bytes());
     }
 }
 
 impl Number for u64 {
-    const SIZE: usize = 8;
+    const SIZE: usize = U64;
 
     ghost SIZE = { 8 };
 
@@ -96,17 +116,17 @@ impl Number for u64 {
         u64::from_le_bytes([
             s[at],
             s[at + 1],
-            s[at + 2],
-            s[at + 3],
-            s[at + 4],
-            s[at + 5],
-            s[at + 6],
-            s[at + 7],
+            s[at + THIRD],
+            s[at + FOURTH],
+            s[at + FIFTH],
+            s[at + SIXTH],
+            s[at + SEVENTH],
+            s[at + EIGHTH],
         ])
     }
 
     #[tactic(auto, unfolding(crate::specs::Numbers::put, crate::specs::Numbers::le))]
     fn put(self, s: &mut [u8], at: usize) {
-        s[at..at + 8].copy_from_slice(&self.to_le_bytes());
+        s[at..at + U64].copy_from_slice(&self.to_le_bytes());
     }
 }

@@ -20,8 +20,8 @@ returns-then-not-is_empty c =
 even : (t : Bool) (n : ℕ) (rest : List ℕ) → t ≡ eqb (length rest) 0 → length rest ≡ n → t ≡ true → n ≡ 0
 even t n rest e long empty = sym long ∙ eqb-true (length rest) 0 (sym e ∙ empty)
 
-pub returns-then-entries-gt-ENTRIES : goal.returns-then-entries-gt-ENTRIES
-returns-then-entries-gt-ENTRIES c =
+pub returns-then-chain-gt-IMAGE_LIMIT : goal.returns-then-chain-gt-IMAGE_LIMIT
+returns-then-chain-gt-IMAGE_LIMIT c =
     let whole = even _ _ _ c.is_empty.ensures c.as_chunks.ensures.back_len c.if-not-is_empty.false in
     readable-long _ _ whole (omega (arith, c.as_chunks.ensures.front_len))
 

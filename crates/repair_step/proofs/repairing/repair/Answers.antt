@@ -4,7 +4,8 @@ use native.Mathlib.Omega.{arith}
 use lib.Seq.{sets}
 use lib.Dec.{eqb}
 use Rattle.wire.specs.Parts.{part}
-use Rattle.sector_check.specs.Repair.{report_number, report_of, repaired_sector}
+use Rattle.sector_check.specs.Repair.{report_of, repaired_sector}
+use Rattle.sector_check.specs.Reports.{report_number}
 use Rattle.sector_check.proofs.RepairLaws.{numbered}
 use Rattle.model.specs.Sizes.{sector_size}
 use Rattle.model.specs.Disk.{disk_of}

@@ -1,37 +1,39 @@
-use mathlib.Core.Path.{◌≡◌, sym, ◌∙◌}
+use mathlib.Core.Path.{◌≡◌, refl, sym, ap, ◌∙◌}
 use mathlib.Core.Bool.{true, false}
-use mathlib.Core.List.{append-nil}
-use Prim.Native.Nat.{◌/◌, ◌%◌}
+use mathlib.Core.List.{List, []}
+use Prim.Native.Nat.{ℕ, ◌/◌, ◌%◌, zero-le}
 use native.Mathlib.Omega.{arith}
-use lib.ListN.{length}
+use lib.ListN.{length, get_or}
 use lib.Dec.{eqb}
-use Rattle.trace_lines.proofs.LinesLaws.{record-command, none-printed, one-more-printed, all-printed}
+use Rattle.timing.specs.Command.{command_at}
+use Rattle.trace_lines.proofs.LinesLaws.{record-command, none-printed, one-more-printed, length-printed, all-printed}
 use Rattle.trace_lines.proofs.lines.put_trace.Goals as goal
 
 pub loop-record-init : goal.loop-record-init
-loop-record-init g c = let a = c.args in none-printed a.drive a.input.now a.text.now
+loop-record-init c = let a = c.args in (zero-le, refl, none-printed a.drive a.input.now a.text.now)
 
 pub loop-record-preserved : goal.loop-record-preserved
-loop-record-preserved g c =
+loop-record-preserved c =
     let a = c.args in
     let s = a.input.now in
-    let l = c.loop-record in
-    let t = c.trace-traced in
-    let k = l.record-index in
-    one-more-printed a.drive s l.invariant c.from.result (rw (c.from.ensures, c.as_chunks.ensures.front) (record-command (length s / 7) k s (omega (arith, c.as_chunks.ensures.front_len, c.loop-record-test.true)))) t.result t.ensures c.put_outcome.ensures.text
+    let k = c.loop-record.record-index in
+    let read = c.from.ensures
+    ∙ ap (λ (l : List (List ℕ)). command_at (get_or l k []) 0) c.as_chunks.ensures.front
+    ∙ record-command (length s / 7) k s (omega (arith, c.as_chunks.ensures.front_len, c.loop-record-test.true)) in
+    let next =
+    one-more-printed a.drive s c.loop-record.invariant.2 c.from.result read c.trace-traced.result c.trace-traced.ensures c.put_outcome-end.ensures in
+    (next.room, length-printed a.drive s next, next)
 
 pub returns-then-not-is_empty-clause-wrote : goal.returns-then-not-is_empty-clause-wrote
-returns-then-not-is_empty-clause-wrote g c =
+returns-then-not-is_empty-clause-wrote c =
     let a = c.args in
     let s = a.input.now in
-    let some : eqb (length s % 7) 0 ≡ false = rw c.as_chunks.ensures.back_len at (sym c.is_empty.ensures ∙ c.if-not-is_empty.true) in
-    c.push_text.ensures.text
-    ∙ all-printed a.drive s c.loop-record.invariant (omega (arith, c.as_chunks.ensures.front_len, c.loop-record-test.false, c.loop-record.auto)) false some
+    let some : eqb (length s % 7) 0 ≡ false = ap (λ (n : ℕ). eqb n 0) (sym c.as_chunks.ensures.back_len) ∙ sym c.is_empty.ensures ∙ c.if-not-is_empty.true in
+    all-printed a.drive s c.loop-record.invariant.2 (omega (arith, c.as_chunks.ensures.front_len, c.loop-record-test.false, c.loop-record.auto)) (rw some c.put_text-end.ensures)
 
 pub returns-else-not-is_empty-clause-wrote : goal.returns-else-not-is_empty-clause-wrote
-returns-else-not-is_empty-clause-wrote g c =
+returns-else-not-is_empty-clause-wrote c =
     let a = c.args in
     let s = a.input.now in
-    let none : eqb (length s % 7) 0 ≡ true = rw c.as_chunks.ensures.back_len at (sym c.is_empty.ensures ∙ c.if-not-is_empty.false) in
-    sym (append-nil c.loop-record.text)
-    ∙ all-printed a.drive s c.loop-record.invariant (omega (arith, c.as_chunks.ensures.front_len, c.loop-record-test.false, c.loop-record.auto)) true none
+    let none : eqb (length s % 7) 0 ≡ true = ap (λ (n : ℕ). eqb n 0) (sym c.as_chunks.ensures.back_len) ∙ sym c.is_empty.ensures ∙ c.if-not-is_empty.false in
+    all-printed a.drive s c.loop-record.invariant.2 (omega (arith, c.as_chunks.ensures.front_len, c.loop-record-test.false, c.loop-record.auto)) (rw none (record { place = omega arith; line = refl }))
